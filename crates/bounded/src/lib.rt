@@ -1,0 +1,2 @@
+// Vectors of fixed capacity.
+pub mod vector;

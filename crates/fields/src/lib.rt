@@ -1,0 +1,3 @@
+// Refusals, and the fields that questions and witnesses are rows of.
+pub mod field;
+pub mod refusal;
