@@ -2,3 +2,4 @@ pub mod Refusals
 pub mod Fields
 pub mod Views
 pub mod Rows
+pub mod Places

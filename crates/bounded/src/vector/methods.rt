@@ -14,7 +14,10 @@ impl<T: Copy, const N: usize> Bounded<T, N> {
     pub fn new(blank: T) -> Self
         ensures { λ r. ⌜ items r ≡ [] ⌝ }
     {
-        Bounded { slots: [blank; N], len: 0 }
+        Bounded {
+            slots: [blank; N],
+            len: 0,
+        }
     }
 
     /// The number of elements.
@@ -28,7 +31,11 @@ impl<T: Copy, const N: usize> Bounded<T, N> {
     pub fn get(&self, index: usize) -> Option<T>
         ensures { λ r. ⌜ r ≡ nth (items (now (self .entry))) index ⌝ }
     {
-        if index < self.len { Some(self.slots[index]) } else { None }
+        if index < self.len {
+            Some(self.slots[index])
+        } else {
+            None
+        }
     }
 
     /// Replaces the element at `index`; false, and nothing changed, past the end.

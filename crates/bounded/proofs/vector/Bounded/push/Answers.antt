@@ -15,7 +15,8 @@ returns-then-at g c =
     let l : length xs ≡ g .N = omega (arith, length-take (v .len) (v .slots)) in
     record {
       room = sym (le-ltb (length xs) (g .N) (omega arith));
-      items = sym (take-append-le (g .N) xs (x ∷ []) (omega arith) ∙ take-all (g .N) xs (omega arith)) }
+      items = sym (take-append-le (g .N) xs (x ∷ []) (omega arith) ∙ take-all (g .N) xs (omega arith));
+    }
 
 pub returns : need.returns
 returns g c =
@@ -25,4 +26,5 @@ returns g c =
     let l : length xs ≡ v .len = omega (arith, length-take (v .len) (v .slots)) in
     record {
       room = sym (lt-ltb (length xs) (g .N) (omega arith));
-      items = take-more-set (v .slots) (v .len) x (omega arith) ∙ sym (take-all (g .N) (xs ++ x ∷ []) (omega (arith, length-push xs x))) }
+      items = take-more-set (v .slots) (v .len) x (omega arith) ∙ sym (take-all (g .N) (xs ++ x ∷ []) (omega (arith, length-push xs x)));
+    }

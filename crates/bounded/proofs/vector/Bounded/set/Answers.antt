@@ -11,7 +11,8 @@ returns-then-index-self g c =
     let l = length-take (v .len) (v .slots) in
     record {
       within = sym (le-ltb (c .args .index) (length (take (v .len) (v .slots))) (omega arith));
-      items = sym (set-past (take (v .len) (v .slots)) (c .args .index) (c .args .x) (omega arith)) }
+      items = sym (set-past (take (v .len) (v .slots)) (c .args .index) (c .args .x) (omega arith));
+    }
 
 pub returns : need.returns
 returns g c =
@@ -24,6 +25,7 @@ returns g c =
     record {
       within = sym (lt-ltb i (length (take n s)) (omega arith));
       items =
-        ap (λ t. take n (set t i x)) (sym (take-append-drop n s))
-        ∙ ap (take n) (set-append-left (take n s) (drop n s) i x (omega arith))
-        ∙ take-at (set (take n s) i x) (drop n s) n (omega (arith, length-set (take n s) i x)) }
+          ap (λ t. take n (set t i x)) (sym (take-append-drop n s))
+          ∙ ap (take n) (set-append-left (take n s) (drop n s) i x (omega arith))
+          ∙ take-at (set (take n s) i x) (drop n s) n (omega (arith, length-set (take n s) i x));
+    }

@@ -1,0 +1,1 @@
+// What a question tells of itself.
