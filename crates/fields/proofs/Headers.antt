@@ -13,7 +13,7 @@ abbrev pub stated : List ℕ → ℕ
 stated b = word (getD b 1 0) (getD b 2 0)
 
 pub split-whole : (b : List ℕ) → 3 ≤ length b → stated b ≤ length (drop 3 b) →
-  split-field b ≡ Ok (record { tag = getD b 0 0; contents = take (stated b) (drop 3 b); rest = drop (stated b) (drop 3 b) })
+    split-field b ≡ Ok (record { tag = getD b 0 0; contents = take (stated b) (drop 3 b); rest = drop (stated b) (drop 3 b) })
 split-whole [] h l = absurd (omega arith)
 split-whole (tag ∷ []) h l = absurd (omega arith)
 split-whole (tag ∷ high ∷ []) h l = absurd (omega arith)

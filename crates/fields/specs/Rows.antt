@@ -35,7 +35,6 @@ pub data RunsPast : List ℕ → Type 0 where
   contents-cut : (tag high low : ℕ) (bytes : List ℕ) → length bytes < word high low → RunsPast (tag ∷ high ∷ low ∷ bytes)
 
 module _ {S V : Type 0} (F : Format S V) where
-
   -- A field, tested for its tag, its length and its contents, in this order.
   abbrev pub tested : S → Cut → Result S Refusal
   tested s c =
@@ -61,23 +60,23 @@ module _ {S V : Type 0} (F : Format S V) where
   pub data Reads : S → List ℕ → V → Type 0 where
     at-end : {s : S} {v : V} → F .whole s ≡ Ok v → Reads s [] v
     field-first : {s : S} {v : V} (tag : ℕ) (contents rest : List ℕ) (t : S) → length contents < 65536 →
-      F .allowed s tag ≡ true → F .fits tag (length contents) ≡ true → F .taken s tag contents ≡ Ok t →
-      Reads t rest v → Reads s (field-bytes tag contents ++ rest) v
+        F .allowed s tag ≡ true → F .fits tag (length contents) ≡ true → F .taken s tag contents ≡ Ok t →
+        Reads t rest v → Reads s (field-bytes tag contents ++ rest) v
 
   -- The first fault of the bytes, fields front to back: past the input, tag, length, contents; a missing field last.
   pub data Faults : S → List ℕ → Refusal → Type 0 where
     missing : {s : S} {e : Refusal} → F .whole s ≡ Err e → Faults s [] e
     past-input : {s : S} {b : List ℕ} → RunsPast b → Faults s b FieldPastInput
     bad-tag : {s : S} (tag : ℕ) (contents rest : List ℕ) → length contents < 65536 →
-      F .allowed s tag ≡ false → Faults s (field-bytes tag contents ++ rest) TagNotAllowed
+        F .allowed s tag ≡ false → Faults s (field-bytes tag contents ++ rest) TagNotAllowed
     bad-length : {s : S} (tag : ℕ) (contents rest : List ℕ) → length contents < 65536 →
-      F .allowed s tag ≡ true → F .fits tag (length contents) ≡ false → Faults s (field-bytes tag contents ++ rest) LengthNotAllowed
+        F .allowed s tag ≡ true → F .fits tag (length contents) ≡ false → Faults s (field-bytes tag contents ++ rest) LengthNotAllowed
     bad-contents : {s : S} {e : Refusal} (tag : ℕ) (contents rest : List ℕ) → length contents < 65536 →
-      F .allowed s tag ≡ true → F .fits tag (length contents) ≡ true → F .taken s tag contents ≡ Err e →
-      Faults s (field-bytes tag contents ++ rest) e
+        F .allowed s tag ≡ true → F .fits tag (length contents) ≡ true → F .taken s tag contents ≡ Err e →
+        Faults s (field-bytes tag contents ++ rest) e
     later : {s : S} {e : Refusal} (tag : ℕ) (contents rest : List ℕ) (t : S) → length contents < 65536 →
-      F .allowed s tag ≡ true → F .fits tag (length contents) ≡ true → F .taken s tag contents ≡ Ok t →
-      Faults t rest e → Faults s (field-bytes tag contents ++ rest) e
+        F .allowed s tag ≡ true → F .fits tag (length contents) ≡ true → F .taken s tag contents ≡ Ok t →
+        Faults t rest e → Faults s (field-bytes tag contents ++ rest) e
 
 -- Of every list of bytes: a row is read exactly if it is well formed, as what it means, and refused exactly for its first fault.
 abbrev pub Rows-are-read-as-they-mean : {S V : Type 0} → Format S V → S → Type 0

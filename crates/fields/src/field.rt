@@ -25,5 +25,9 @@ pub fn split_field(bytes: &[u8]) -> Result<Split<'_>, Refusal>
         return Err(Refusal::FieldPastInput);
     }
     let (contents, rest) = behind.split_at(size);
-    Ok(Split { tag: bytes[0], contents, rest })
+    Ok(Split {
+        tag: bytes[0],
+        contents,
+        rest,
+    })
 }
