@@ -79,7 +79,7 @@ checked n r =
     (Err KindOrRegisterNotAllowed)
 
 -- The instruction that eight bytes state.
-abbrev pub instruction-of : ℕ → List ℕ → Result Instruction Refusal
+unfoldable pub instruction-of : ℕ → List ℕ → Result Instruction Refusal
 instruction-of n b = checked n (raw-of b)
 
 -- The byte of an operand.

@@ -6,3 +6,4 @@ pub mod Cells
 pub mod Codes
 pub mod Read
 pub mod Views
+pub mod Means

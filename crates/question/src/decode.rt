@@ -1,6 +1,6 @@
 // One instruction from its eight bytes.
 ghost use mathlib.Core.Path.{_≡_};
-ghost use Rattle.question.specs.Instructions.{instruction-of, register-fits, registers-fit, numbers-fit, operand, instruction-from};
+ghost use Rattle.question.specs.Instructions.{checked, raw-of, register-fits, registers-fit, numbers-fit, operand, instruction-from};
 use super::instruction::AccessType;
 use super::instruction::Instruction;
 use super::table::ROWS;
@@ -108,7 +108,7 @@ fn instruction(raw: Raw) -> Instruction
 
 /// One instruction of a processor with this many places.
 pub fn read_instruction(bytes: &[u8; 8], places: usize) -> Result<Instruction, Refusal>
-    ensures { λ r. ⌜ r ≡ instruction-of places (now (bytes .entry)) ⌝ }
+    ensures { λ r. ⌜ r ≡ checked places (raw-of (now (bytes .entry))) ⌝ }
 {
     let raw = Raw {
         kind: bytes[0],

@@ -1,0 +1,2 @@
+// The laws of the formats: each function carries a theorem in its contract.
+pub mod questions;
