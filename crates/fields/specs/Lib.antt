@@ -3,3 +3,4 @@ pub mod Fields
 pub mod Views
 pub mod Rows
 pub mod Places
+pub mod Areas

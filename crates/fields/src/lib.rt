@@ -1,3 +1,4 @@
-// Refusals, and the fields that questions and witnesses are rows of.
+// Refusals, the fields that questions and witnesses are rows of, and the caller's areas.
+pub mod area;
 pub mod field;
 pub mod refusal;

@@ -19,7 +19,7 @@ use Rattle.question.specs.Cells.{cells-from}
 
 -- The three bytes of the record at i.
 three : (b : List ℕ) (i : ℕ) → 3 * i + 3 ≤ length b →
-  drop (3 * i) b ≡ getD b (3 * i) 0 ∷ getD b (3 * i + 1) 0 ∷ getD b (3 * i + 2) 0 ∷ drop (3 * (i + 1)) b
+    drop (3 * i) b ≡ getD b (3 * i) 0 ∷ getD b (3 * i + 1) 0 ∷ getD b (3 * i + 2) 0 ∷ drop (3 * (i + 1)) b
 three b i h =
     let e : 3 * i + 1 + 1 ≡ 3 * i + 2 = omega arith in
     let f : 3 * i + 2 + 1 ≡ 3 * (i + 1) = omega arith in
@@ -29,18 +29,17 @@ three b i h =
     ∙ ap (λ k. getD b (3 * i + 2) 0 ∷ drop k b) f))
 
 module _ (b cs : List ℕ) (least i : ℕ) (h : 3 * i + 3 ≤ length b) where
-
   abbrev address : ℕ
   address = getD b (3 * i) 0
 
   pub cells-more : least ≤ address → address < 16 →
-    cells-from least cs (drop (3 * i) b) ≡ cells-from (address + 1) (set cs address (word (getD b (3 * i + 1) 0) (getD b (3 * i + 2) 0))) (drop (3 * (i + 1)) b)
+      cells-from least cs (drop (3 * i) b) ≡ cells-from (address + 1) (set cs address (word (getD b (3 * i + 1) 0) (getD b (3 * i + 2) 0))) (drop (3 * (i + 1)) b)
   unfolding cells-from
   cells-more l u = rw (three b i h, le-leb least address l, lt-ltb address 16 u, add-one address)
 
   pub cells-fault : (address < least) ⊎ (16 ≤ address) → cells-from least cs (drop (3 * i) b) ≡ Err CellAddressNotAllowed
   unfolding cells-from
-  cells-fault f = rw (three b i h, refused) 
+  cells-fault f = rw (three b i h, refused)
     where
       refused : (leb least address && ltb address 16) ≡ false
       refused = elim f [ inl l ↦ and-left _ _ (lt-leb least address l) | inr u ↦ and-right (leb least address) _ (le-ltb address 16 u) ]

@@ -53,9 +53,9 @@ processor-bytes is = field-bytes processor-tag (joined instruction-bytes is)
 -- These bytes are a well-formed question and mean this litmus test.
 pub data Means : List ℕ → Litmus → Type 0 where
   without-cells : (code : List (List Instruction)) → Processors-allowed code →
-    Means (joined processor-bytes code) (record { start = zeros; code = code })
+      Means (joined processor-bytes code) (record { start = zeros; code = code })
   with-cells : (rs : List Start) (code : List (List Instruction)) → Rising 0 rs → Processors-allowed code →
-    Means (field-bytes cell-tag (joined start-bytes rs) ++ joined processor-bytes code) (record { start = started zeros rs; code = code })
+      Means (field-bytes cell-tag (joined start-bytes rs) ++ joined processor-bytes code) (record { start = started zeros rs; code = code })
 
 -- Accepted are exactly the well-formed strings of bytes, as what they mean.
 abbrev pub Questions-are-read-as-they-mean : Type 0

@@ -20,9 +20,10 @@ pub loop-i-again : need.loop-i-again
 loop-i-again c =
     let b = c .args .contents .now in
     let i = c .loop-i .i in
-    let m : 3 * i + 3 ≤ length b = omega arith in
-    (length-set (c .loop-i .cells) (getD b (3 * i) 0) _ ∙ c .loop-i .inv .0,
-     c .loop-i .inv .1 ∙ cells-more b (c .loop-i .cells) (c .loop-i .least) i m (omega arith) (omega arith))
+    let m : 3 * i + 3 ≤ length b = omega arith in (
+      length-set (c .loop-i .cells) (getD b (3 * i) 0) _ ∙ c .loop-i .inv .0,
+      c .loop-i .inv .1 ∙ cells-more b (c .loop-i .cells) (c .loop-i .least) i m (omega arith) (omega arith),
+    )
 
 pub returns : need.returns
 returns c =

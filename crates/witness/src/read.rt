@@ -1,0 +1,1 @@
+// A witness from its bytes.

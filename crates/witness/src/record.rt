@@ -1,0 +1,16 @@
+// The records of a witness. Any values may stand in them; a checker judges them.
+
+/// What a load took: the store at a processor's position, or the start where both are FF; and the value.
+#[derive(Clone, Copy, PartialEq, Eq, Debug)]
+pub struct Source {
+    pub processor: u8,
+    pub position: u8,
+    pub value: u16,
+}
+
+/// An access in the memory order: the entry at a processor's position.
+#[derive(Clone, Copy, PartialEq, Eq, Debug)]
+pub struct Access {
+    pub processor: u8,
+    pub position: u8,
+}
