@@ -1,5 +1,5 @@
 -- What the types of the code stand for.
-use mathlib.Core.List.{List, map}
+use mathlib.Core.List.{List, [], map}
 use Prim.Native.Nat.{ℕ}
 use denote.Ref.{now, RefT}
 use Rattle.bounded.specs.Items.{items}
@@ -27,6 +27,14 @@ litmus-of q = record { start = q .start; code = map instructions-of (items (q .p
 -- What a draft knows of the fields so far.
 abbrev pub draft-of : Held → Draft
 draft-of d = record { empty = d .empty; start = d .start; code = map instructions-of (items (d .processors)) }
+
+-- A cell field with these contents, and nothing behind it.
+abbrev pub cell-cut : List ℕ → Cut
+cell-cut contents = record { tag = cell-tag; contents = contents; rest = [] }
+
+-- A processor field with these contents, and nothing behind it.
+abbrev pub processor-cut : List ℕ → Cut
+processor-cut contents = record { tag = processor-tag; contents = contents; rest = [] }
 
 -- A field as its tag and contents, with the bytes behind it.
 abbrev pub cut-of : Field → List ℕ → Cut
