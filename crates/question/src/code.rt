@@ -7,6 +7,8 @@ ghost use Rattle.question.specs.Sound.{code-sound};
 use super::instruction::Instruction;
 use bounded::vector::Bounded;
 
+pub mod methods;
+
 /// At most sixteen instructions, each with registers below 8 and a branch target within them or at their end.
 #[derive(Copy)]
 pub struct Code {

@@ -18,8 +18,6 @@ use super::decode::read_instruction;
 use super::draft::Draft;
 use super::field::Field;
 use super::field::read_field;
-use super::instruction::AccessType;
-use super::instruction::Instruction;
 use super::question::Question;
 use bounded::vector::Bounded;
 use fields::refusal::Refusal;
@@ -70,7 +68,7 @@ fn read_code(contents: &[u8]) -> Result<Code, Refusal>
         return Err(Refusal::LengthNotAllowed);
     }
     let places = contents.len() / 8;
-    let mut instructions = Bounded::new(BLANK);
+    let mut instructions = Code::empty().instructions;
     for place in 0..places {
         let instruction = read_instruction(&eight(contents, place), places)?;
         instructions.push(instruction);
@@ -78,24 +76,15 @@ fn read_code(contents: &[u8]) -> Result<Code, Refusal>
     Ok(Code { instructions })
 }
 
-/// What fills the slots of a code that are not in use.
-const BLANK: Instruction = Instruction::Fence {
-    before: AccessType::Load,
-    after: AccessType::Load,
-};
-
 impl Draft {
     /// Before the first field.
     fn new() -> Draft
         ensures { λ r. ⌜ draft-of r ≡ no-fields ⌝ }
     {
-        let none = Code {
-            instructions: Bounded::new(BLANK),
-        };
         Draft {
             empty: true,
             start: [0; 16],
-            processors: Bounded::new(none),
+            processors: Bounded::new(Code::empty()),
         }
     }
 
