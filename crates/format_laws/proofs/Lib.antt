@@ -1,2 +1,4 @@
 pub mod Operands
 pub mod Instructions
+pub mod Codes
+pub mod CodeFaults
