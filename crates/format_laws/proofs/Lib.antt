@@ -2,3 +2,4 @@ pub mod Operands
 pub mod Instructions
 pub mod Codes
 pub mod CodeFaults
+pub mod Cells
