@@ -86,6 +86,10 @@ rising-few : (least : ℕ) (rs : List Start) → least ≤ 16 → Rising least r
 rising-few least [] l h = omega arith
 rising-few least (r ∷ rs) l h = let k = rising-few (suc (r .address)) rs (h .1) (h .2) in omega arith
 
+-- Rising records have at most forty-eight bytes.
+pub length-rising : (rs : List Start) → Rising 0 rs → length (joined start-bytes rs) ≤ 48
+length-rising rs h = let l = length-records rs in let m = rising-few 0 rs (omega arith) h in omega arith
+
 -- The contents of a cell field that is read are the bytes of rising records.
 pub contents-cells : (b s : List ℕ) → cells-fit (length b) ≡ true → All (λ x. x < 256) b → cells-from 0 zeros b ≡ Ok s → Recorded 0 zeros b s
 contents-cells b s f w h =
@@ -98,8 +102,7 @@ pub cells-contents : (rs : List Start) → Rising 0 rs →
 cells-contents rs h =
     let n = length (joined start-bytes rs) in
     let l = length-records rs in
-    let m = rising-few 0 rs (omega arith) h in
-    (and-from _ _ (le-leb n 48 (omega arith)) (eq-eqb (n % 3) 0 (omega arith)), cells-read 0 zeros rs h)
+    (and-from _ _ (le-leb n 48 (length-rising rs h)) (eq-eqb (n % 3) 0 (omega arith)), cells-read 0 zeros rs h)
 
 -- Records rise, or are refused for an address.
 rising-or-refused : (least : ℕ) (cells : List ℕ) (rs : List Start) →

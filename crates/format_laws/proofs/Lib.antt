@@ -3,3 +3,5 @@ pub mod Instructions
 pub mod Codes
 pub mod CodeFaults
 pub mod Cells
+pub mod Processors
+pub mod Meanings
