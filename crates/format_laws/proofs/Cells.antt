@@ -1,7 +1,7 @@
 -- The start values of the cells are read from exactly the bytes of rising records.
-use mathlib.Core.Path.{_≡_, refl, sym, ap, _∙_}
+use mathlib.Core.Path.{_≡_, refl, ap}
 use mathlib.Core.Bool.{Bool, true, false, cond, _&&_}
-use mathlib.Core.List.{List, [], _∷_, _++_}
+use mathlib.Core.List.{List, [], _∷_}
 use mathlib.Core.Logic.{_⊎_, inl, inr}
 use Prim.Native.Nat.{ℕ, suc, _+_, _*_, _/_, _%_, _≤_, _<_}
 use native.Mathlib.Omega.{arith}
@@ -10,10 +10,10 @@ use lib.ListN.{length, set}
 use Rattle.std.specs.shelf.Lists.{All, joined}
 use Rattle.std.specs.declared.result.Result.{Result}
 use Rattle.std.specs.declared.result.Result.the-variants.{Ok, Err}
-use Rattle.std.proofs.shelf.Tests.{leb-true, ltb-true, eqb-true, le-leb, lt-ltb, eq-eqb, both-ways, and-from, and-parts}
+use Rattle.std.proofs.shelf.Tests.{leb-true, ltb-true, eqb-true, le-leb, lt-ltb, eq-eqb, and-from, and-parts}
 use Rattle.fields.specs.declared.refusal.Refusal.{Refusal}
 use Rattle.fields.specs.declared.refusal.Refusal.the-variants.{CellAddressNotAllowed}
-use Rattle.fields.specs.Fields.{word, word-bytes}
+use Rattle.fields.specs.Fields.{word}
 use Rattle.fields.proofs.Relations.{word-joined}
 use Rattle.question.specs.Cells.{zeros, cells-from, cells-fit}
 use Rattle.question.specs.Means.{Start, start-bytes, Rising, started, Cell-contents-refused-for-an-address}
@@ -22,10 +22,11 @@ use Rattle.question.specs.Means.{Start, start-bytes, Rising, started, Cell-cont
 abbrev in-place : ℕ → ℕ → Bool
 in-place least address = leb least address && ltb address 16
 
--- An address passes the test exactly if it lies there.
+-- An address that lies there passes the test.
 place-passes : (least address : ℕ) → least ≤ address → address < 16 → in-place least address ≡ true
 place-passes least address l u = and-from _ _ (le-leb least address l) (lt-ltb address 16 u)
 
+-- An address that passes the test lies there.
 passed-place : (least address : ℕ) → in-place least address ≡ true → (least ≤ address) × (address < 16)
 passed-place least address h =
     let p = and-parts (leb least address) (ltb address 16) h in (leb-true least address (p .0), ltb-true address 16 (p .1))

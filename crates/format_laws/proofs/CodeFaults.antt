@@ -1,7 +1,7 @@
 -- A processor's instructions are refused for the first one that is, as that one is.
-use mathlib.Core.Path.{_≡_, refl, sym, ap, _∙_}
+use mathlib.Core.Path.{_≡_, sym, ap, _∙_}
 use mathlib.Core.Bool.{true}
-use mathlib.Core.List.{List, [], _∷_}
+use mathlib.Core.List.{List, _∷_}
 use mathlib.Core.Logic.{inl, inr}
 use Prim.Native.Nat.{ℕ, zero, suc, _+_, _*_, _/_, _<_}
 use native.Mathlib.Omega.{arith}
@@ -16,7 +16,7 @@ use Rattle.fields.specs.Rows.{then}
 use Rattle.fields.proofs.Rows.{then-err}
 use Rattle.question.specs.declared.instruction.Instruction.{Instruction}
 use Rattle.question.specs.Instructions.{instruction-of}
-use Rattle.question.specs.Codes.{code-from, code-of}
+use Rattle.question.specs.Codes.{code-from}
 use Rattle.question.specs.Means.{Code-refused-for-its-first-fault}
 
 module _ (n : ℕ) (e : Refusal) where
@@ -46,7 +46,7 @@ module _ (n : ℕ) (e : Refusal) where
   code-first : (m : ℕ) (b : List ℕ) → code-from n m b ≡ Err e → First m b
   unfolding code-from
   code-first zero b h = absurd (let z : _≡_ {A = ℕ} 0 1 = cc in omega arith)
-  code-first (suc m) b h = 
+  code-first (suc m) b h =
       elim (then-err (instruction-of n (take 8 b)) (λ i. then (code-from n m (drop 8 b)) (λ is. Ok (i ∷ is))) e h) [
         | inl p ↦ (0, omega arith, λ q l. absurd (omega arith), p)
         | inr p ↦

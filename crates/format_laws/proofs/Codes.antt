@@ -1,8 +1,8 @@
 -- A processor's instructions are read from exactly their own bytes.
 use mathlib.Core.Path.{_≡_, refl, sym, ap, _∙_}
-use mathlib.Core.Bool.{true, _&&_}
+use mathlib.Core.Bool.{true}
 use mathlib.Core.List.{List, [], _∷_, _++_}
-use Prim.Native.Nat.{ℕ, zero, suc, _*_, _/_, _%_, _≤_, _<_}
+use Prim.Native.Nat.{ℕ, zero, suc, _*_, _/_, _%_, _<_}
 use native.Mathlib.Omega.{arith}
 use lib.Dec.{eqb, leb}
 use lib.ListN.{length, take, drop}
@@ -45,8 +45,12 @@ code-read n [] h = refl
 code-read n (i ∷ is) h =
     let p = and-parts (instruction-sound n i) (all-sound n is) h in
     let l = length-instruction i in
-    rw (take-at (instruction-bytes i) (joined instruction-bytes is) 8 l, drop-at (instruction-bytes i) (joined instruction-bytes is) 8 l,
-    instruction-read n i (p .0), code-read n is (p .1))
+    rw (
+      take-at (instruction-bytes i) (joined instruction-bytes is) 8 l,
+      drop-at (instruction-bytes i) (joined instruction-bytes is) 8 l,
+      instruction-read n i (p .0),
+      code-read n is (p .1),
+    )
 
 -- These bytes are those of these m sound instructions.
 record Coded (n m : ℕ) (b : List ℕ) (is : List Instruction) : Type 0 where

@@ -8,14 +8,10 @@ use native.Mathlib.Omega.{arith}
 use lib.Dec.{eqb, ltb, leb}
 use lib.ListN.{length, getD}
 use Rattle.std.specs.shelf.Lists.{All}
-use Rattle.std.specs.declared.option.Option.{Option}
-use Rattle.std.specs.declared.option.Option.the-variants.{Some, None}
-use Rattle.std.specs.declared.result.Result.{Result}
 use Rattle.std.specs.declared.result.Result.the-variants.{Ok, Err}
 use Rattle.std.proofs.shelf.Counted.{fill-by-all}
 use Rattle.std.proofs.shelf.Elements.{all-getD}
 use Rattle.std.proofs.shelf.Tests.{ltb-true, eqb-true, false≢true, and-parts, or-cases}
-use Rattle.fields.specs.declared.refusal.Refusal.{Refusal}
 use Rattle.fields.specs.declared.refusal.Refusal.the-variants.{KindOrRegisterNotAllowed, NumberNotAllowed}
 use Rattle.fields.specs.Fields.{word}
 use Rattle.fields.proofs.Relations.{word-joined}
@@ -23,7 +19,7 @@ use Rattle.question.specs.declared.instruction.Instruction.{Instruction}
 use Rattle.question.specs.declared.instruction.Instruction.the-variants.{Add, Subtract, Load, Store, Branch, Fence}
 use Rattle.question.specs.Sound.{register-sound, operand-sound, instruction-sound}
 use Rattle.question.specs.Table.{row-of}
-use Rattle.question.specs.Instructions.{raw-of, kind-fits, register-fits, registers-fit, numbers-fit, instruction-from, checked, instruction-of, fence-number, instruction-bytes}
+use Rattle.question.specs.Instructions.{raw-of, kind-fits, register-fits, registers-fit, numbers-fit, instruction-from, instruction-of, fence-number, instruction-bytes}
 use Rattle.format_laws.proofs.Operands.{operand-fits, operand-back, operand-byte-back, operand-sound-from, fence-before-back, fence-after-back, fence-number-below, fence-number-back}
 
 -- A sound instruction is read from its bytes.
@@ -49,13 +45,14 @@ instruction-read n (Branch s1 k j) h =
 instruction-read n (Fence before after) h =
     rw (word-joined (fence-number before after), fence-number-below before after, fence-before-back before after, fence-after-back before after)
 
--- Eight bytes that are read pass every test.
+-- Eight bytes pass every test, and are this instruction.
 record Passed (n : ℕ) (b : List ℕ) (i : Instruction) : Type 0 where
   kind : kind-fits (getD b 0 0) ≡ true
   registers : registers-fit (row-of (getD b 0 0)) (raw-of b) ≡ true
   numbers : numbers-fit n (row-of (getD b 0 0)) (raw-of b) ≡ true
   is : instruction-from (raw-of b) ≡ i
 
+-- Eight bytes that are read pass every test.
 instruction-passed : (n : ℕ) (b : List ℕ) (i : Instruction) → instruction-of n b ≡ Ok i → Passed n b i
 unfolding instruction-of
 instruction-passed n b i h =
@@ -70,10 +67,11 @@ instruction-passed n b i h =
     go true false v p q r h = absurd (let z : _≡_ {A = ℕ} 0 1 = cc in omega arith)
     go false u v p q r h = absurd (let z : _≡_ {A = ℕ} 0 1 = cc in omega arith)
 
--- Two bytes as a number and back.
+-- The high byte comes back from the number of two bytes.
 word-high : (high low : ℕ) → low < 256 → word high low / 256 ≡ high
 word-high high low l = omega arith
 
+-- The low byte comes back from the number of two bytes.
 word-low : (high low : ℕ) → low < 256 → word high low % 256 ≡ low
 word-low high low l = omega arith
 
@@ -93,7 +91,7 @@ register-from x h = elim (or-cases (ltb x 8) false h) [ inl e ↦ e | inr e ↦ 
 abbrev pub States : ℕ → List ℕ → Instruction → Type 0
 States n b i = (b ≡ instruction-bytes i) × (instruction-sound n i ≡ true)
 
--- Three tests that passed together passed each.
+-- Where three tests together pass, each does.
 three-parts : (x y z : Bool) → (x && (y && z)) ≡ true → (x ≡ true) × (y ≡ true) × (z ≡ true)
 three-parts x y z h = let p = and-parts x (y && z) h in let q = and-parts y z (p .1) in (p .0, q .0, q .1)
 
@@ -147,8 +145,17 @@ module _ (n d s1 s2 k1 k0 j1 j0 : ℕ) (i : Instruction) (k : k0 < 256) (j : j0 
       let r = three-parts (register-fits false false d) (register-fits false true s1) (register-fits false true s2) (p .registers) in
       let l = and-parts (eqb (word j1 j0) 0) (ltb (word k1 k0) 4) (p .numbers) in
       let z = word-none j1 j0 (l .0) in
-      rw (← p .is, eqb-true d 255 (r .0), eqb-true s1 255 (r .1), eqb-true s2 255 (r .2), fence-number-back (word k1 k0) (l .1),
-      word-high k1 k0 k, word-low k1 k0 k, z .0, z .1)
+      rw (
+        ← p .is,
+        eqb-true d 255 (r .0),
+        eqb-true s1 255 (r .1),
+        eqb-true s2 255 (r .2),
+        fence-number-back (word k1 k0) (l .1),
+        word-high k1 k0 k,
+        word-low k1 k0 k,
+        z .0,
+        z .1,
+      )
       (refl, refl)
 
   -- Bytes that are read state what they are read as.

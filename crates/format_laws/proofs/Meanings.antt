@@ -1,23 +1,22 @@
 -- A question is read exactly if it is well formed, as the litmus test that it means.
 use mathlib.Core.Path.{_≡_, refl, sym, ap, _∙_}
-use mathlib.Core.Bool.{Bool, true, false, cond}
-use mathlib.Core.List.{List, [], _∷_, _++_}
-use Prim.Native.Nat.{ℕ, _≤_, _<_}
+use mathlib.Core.Bool.{Bool, true, false}
+use mathlib.Core.List.{List, [], _++_}
+use Prim.Native.Nat.{ℕ, _<_}
 use native.Mathlib.Omega.{arith}
 use lib.Dec.{eqb}
 use lib.ListN.{length}
 use Rattle.std.specs.shelf.Lists.{All, joined}
-use Rattle.std.specs.declared.result.Result.the-variants.{Ok, Err}
+use Rattle.std.specs.declared.result.Result.the-variants.{Ok}
 use Rattle.std.proofs.shelf.Tests.{eqb-true}
 use Rattle.fields.specs.Fields.{field-bytes}
 use Rattle.fields.specs.Rows.{Reads}
 use Rattle.fields.proofs.Rows.{then-ok}
 use Rattle.fields.proofs.Relations.{rows-are-read-as-they-mean}
-use Rattle.question.specs.declared.instruction.Instruction.{Instruction}
 use Rattle.question.specs.Litmus.{Litmus}
 use Rattle.question.specs.Cells.{zeros, cells-from}
-use Rattle.question.specs.Read.{Draft, no-fields, cell-tag, processor-tag, question-allowed, question-fits, question-taken, question-format}
-use Rattle.question.specs.Means.{Start, start-bytes, Rising, started, Processors-allowed, processor-bytes, Means, Questions-are-read-as-they-mean}
+use Rattle.question.specs.Read.{Draft, no-fields, cell-tag, processor-tag, question-fits, question-taken, question-format}
+use Rattle.question.specs.Means.{start-bytes, started, processor-bytes, Means, Questions-are-read-as-they-mean}
 use Rattle.format_laws.proofs.Cells.{Recorded, length-rising, contents-cells, cells-contents}
 use Rattle.format_laws.proofs.Processors.{More, all-parts, litmus, processor-taken, processor-next, more-next, reads-more, more-reads}
 

@@ -1,14 +1,12 @@
 -- Operands and fences, and the bytes and numbers that stand for them.
 use mathlib.Core.Path.{_≡_, refl, _∙_}
 use mathlib.Core.Bool.{Bool, true, false, cond, _||_}
-use mathlib.Core.Logic.{inl, inr}
-use Prim.Native.Nat.{ℕ, zero, suc, _<_}
+use Prim.Native.Nat.{ℕ, zero, suc}
 use native.Mathlib.Omega.{arith}
 use lib.Dec.{eqb, ltb}
 use Rattle.std.specs.declared.option.Option.{Option}
 use Rattle.std.specs.declared.option.Option.the-variants.{Some, None}
-use Rattle.std.proofs.shelf.Tests.{ltb-true, eqb-true, lt-ltb, ne-eqb}
-use Rattle.std.proofs.shelf.Ways.{tells}
+use Rattle.std.proofs.shelf.Tests.{ltb-true, eqb-true, ne-eqb}
 use Rattle.question.specs.declared.instruction.AccessType.{AccessType}
 use Rattle.question.specs.declared.instruction.AccessType.the-variants as access
 use Rattle.question.specs.Sound.{operand-sound}
@@ -41,13 +39,14 @@ operand-sound-from x h = go (eqb x 255) refl (ltb x 8) refl h
     go false e true f h = f
     go false e false f h = f ∙ h
 
--- A fence is the fence of its number.
+-- The first access of a fence comes back from its number.
 pub fence-before-back : (a b : AccessType) → fence-before (fence-number a b) ≡ a
 fence-before-back access.Load access.Load = refl
 fence-before-back access.Load access.Store = refl
 fence-before-back access.Store access.Load = refl
 fence-before-back access.Store access.Store = refl
 
+-- The second access of a fence comes back from its number.
 pub fence-after-back : (a b : AccessType) → fence-after (fence-number a b) ≡ b
 fence-after-back access.Load access.Load = refl
 fence-after-back access.Load access.Store = refl

@@ -2,15 +2,14 @@
 use mathlib.Core.Path.{_≡_, refl, sym, ap, _∙_}
 use mathlib.Core.Bool.{Bool, true, false, cond, _&&_}
 use mathlib.Core.List.{List, [], _∷_, _++_}
-use Prim.Native.Nat.{ℕ, suc, _+_, _*_, _≤_, _<_}
+use Prim.Native.Nat.{ℕ, _+_, _≤_, _<_}
 use native.Mathlib.Omega.{arith}
 use lib.Dec.{eqb, ltb}
 use lib.ListN.{length}
 use Rattle.std.specs.shelf.Lists.{All, joined}
 use Rattle.std.specs.declared.result.Result.the-variants.{Ok, Err}
-use Rattle.std.proofs.shelf.Lists.{append-nil, append-assoc, length-append, length-push}
-use Rattle.std.proofs.shelf.Tests.{ltb-true, eqb-true, lt-ltb, cases-bool, false≢true, and-parts}
-use Rattle.fields.specs.declared.refusal.Refusal.{Refusal}
+use Rattle.std.proofs.shelf.Lists.{append-nil, append-assoc, length-push}
+use Rattle.std.proofs.shelf.Tests.{ltb-true, eqb-true, lt-ltb, false≢true, and-parts}
 use Rattle.fields.specs.declared.refusal.Refusal.the-variants.{TagNotAllowed}
 use Rattle.fields.specs.Fields.{field-bytes}
 use Rattle.fields.specs.Rows.{Reads}
