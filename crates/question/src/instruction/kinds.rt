@@ -62,6 +62,39 @@ impl Instruction {
         }
     }
 
+    /// Whether it is a fence that earlier accesses of the type come before.
+    pub fn fences_from(self, access: AccessType) -> bool
+        ensures { λ r. ⌜ r ≡ fence-from access self ⌝ }
+    {
+        match (self, access) {
+            (
+                Instruction::Fence {
+                    before: AccessType::Load,
+                    ..
+                },
+                AccessType::Load,
+            ) => true,
+            (
+                Instruction::Fence {
+                    before: AccessType::Store,
+                    ..
+                },
+                AccessType::Store,
+            ) => true,
+            _ => false,
+        }
+    }
+
+    /// Whether it is a fence.
+    pub fn fences(self) -> bool
+        ensures { λ r. ⌜ r ≡ fences self ⌝ }
+    {
+        match self {
+            Instruction::Fence { .. } => true,
+            _ => false,
+        }
+    }
+
     /// Whether it is a fence that later accesses of the type come after.
     pub fn fences_to(self, access: AccessType) -> bool
         ensures { λ r. ⌜ r ≡ fence-to access self ⌝ }
