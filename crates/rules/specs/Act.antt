@@ -38,7 +38,7 @@ action rule.Store es p i = making (changes.store es i p)
 action rule.Address es p i = making (changes.address es i)
 
 -- A step of rules 2 to 8: there is an entry and no guess; the rule is for its kind; the step was not made yet; then the rule itself.
-unfoldable pub act : Rule → List Entry → ℕ → ℕ → ℕ → Result Action Refusal
+abbrev pub act : Rule → List Entry → ℕ → ℕ → ℕ → Result Action Refusal
 act r es p i guess =
     cond (ltb i (length es) && eqb guess 0)
     (cond (suits r (at es i .instruction))
@@ -55,7 +55,7 @@ abbrev pub fetch-fits : Instruction → ℕ → ℕ → Bool
 fetch-fits i position guess = eqb position 0 && (eqb guess 0 || (eqb guess 1 && branches i))
 
 -- A fetch: not at the end, not into a full buffer, with a fitting position and guess; the entry that it adds.
-unfoldable pub fetch : List Instruction → ℕ → List Entry → ℕ → ℕ → Result Entry Refusal
+abbrev pub fetch : List Instruction → ℕ → List Entry → ℕ → ℕ → Result Entry Refusal
 fetch code counter es position guess =
     cond (ltb counter (length code))
     (cond (ltb (length es) 16)

@@ -12,6 +12,7 @@ use Rattle.std.specs.declared.result.Result.the-variants.{Ok, Err}
 use Rattle.fields.specs.declared.refusal.Refusal.{Refusal}
 use Rattle.fields.specs.declared.refusal.Refusal.the-variants.{OperandWanting, HeldBack}
 use Rattle.fields.specs.Rows.{then}
+use Rattle.memory.specs.declared.cell.Mark.{Mark}
 use Rattle.memory.specs.declared.cell.Mark.the-variants as mark
 use Rattle.question.specs.Effects.{result, address-sum, data-sum, next-place}
 use Rattle.question.specs.Kinds.{loads, stores, first-operand, second-operand}
@@ -41,6 +42,10 @@ unless-held (Some j) r = Err HeldBack
 abbrev pub only : Entry → Change
 only e = record { entry = e; cut = None; effect = Local }
 
+-- Rule 5: the load done, with a value and where it came from.
+abbrev pub load-change : Entry → ℕ → Mark → Change
+load-change e v m = record { entry = loaded e v m; cut = None; effect = Loaded }
+
 module _ (es : List Entry) (i : ℕ) where
   -- The value of the first operand.
   abbrev pub first-value : Result ℕ Refusal
@@ -69,10 +74,6 @@ module _ (es : List Entry) (i : ℕ) where
   abbrev pub fence : Result Change Refusal
   fence = unless-held (nearest (passes (open-for-fence (at es i .instruction)) es) i) (Ok (only (done-with (at es i) (at es i .value))))
 
-  -- Rule 5: the load done, with a value and where it came from.
-  abbrev pub load-change : ℕ → mark.the-data → Change
-  load-change v m = record { entry = loaded (at es i) v m; cut = None; effect = Loaded }
-
   -- Rule 6: the second operand is ready; the data are available.
   abbrev pub store-data : Result Change Refusal
   store-data = then second-value (λ y. Ok (only (supplied (at es i) (data-sum (at es i .instruction) y))))
@@ -92,7 +93,7 @@ module _ (es : List Entry) (i : ℕ) where
   module _ (p : ℕ) where
     -- Rule 5: what the nearest older access to the cell that is not done leaves for the load: a store with data gives them.
     abbrev pub forwarded : Option ℕ → Bool → ℕ → Result Action Refusal
-    forwarded (Some v) true j = Ok (Make (load-change v (mark.Store p j)))
+    forwarded (Some v) true j = Ok (Make (load-change (at es i) v (mark.Store p j)))
     forwarded (Some v) false j = Err HeldBack
     forwarded None true j = Err HeldBack
     forwarded None false j = Err HeldBack
@@ -100,7 +101,7 @@ module _ (es : List Entry) (i : ℕ) where
     -- Rule 5: where the value comes from: such an access, or the memory if there is none.
     abbrev pub taken-from : ℕ → Option ℕ → Result Action Refusal
     taken-from a None = Ok (Read a)
-    taken-from a (Some j) = forwarded (at es j .data) (stores (at es j .instruction)) j
+    taken-from a (Some j) = forwarded (at es j .datum) (stores (at es j .instruction)) j
 
     -- Rule 5: the address is available and all older fences that loads come after are done.
     abbrev pub load : Result Action Refusal
@@ -111,6 +112,6 @@ module _ (es : List Entry) (i : ℕ) where
     -- Rule 7: address and data are available and nothing older holds the store back; done, and the cell is written with this position as mark.
     abbrev pub store : Result Change Refusal
     store =
-        then (wanted (at es i .address)) (λ a. then (wanted (at es i .data)) (λ d.
+        then (wanted (at es i .address)) (λ a. then (wanted (at es i .datum)) (λ d.
         unless-held (nearest (passes (holds-store a) es) i)
         (Ok (record { entry = done-with (at es i) (at es i .value); cut = None; effect = Stored a (record { value = d; mark = mark.Store p i }) }))))

@@ -41,6 +41,6 @@ made rule.Arithmetic e = e .done
 made rule.Branch e = e .done
 made rule.Fence e = e .done
 made rule.Load e = e .done
-made rule.StoreData e = isSome (e .data)
+made rule.StoreData e = isSome (e .datum)
 made rule.Store e = e .done
 made rule.Address e = isSome (e .address)

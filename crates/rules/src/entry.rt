@@ -16,7 +16,7 @@ pub struct Entry {
     /// an access's address once it is available, not yet reduced modulo 16
     pub address: Option<u16>,
     /// a store's data once they are available
-    pub data: Option<u16>,
+    pub datum: Option<u16>,
     /// where a load's value came from
     pub mark: Mark,
 }

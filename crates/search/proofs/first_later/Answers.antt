@@ -11,7 +11,7 @@ returns-then-matches g c =
     let xs = c .args .items .now in
     let k = c .loop-k .k in
     let hit = passes-read p xs k (c .index-items-k .result) (omega arith) (c .index-items-k .is) ∙ sym (c .if-matches .ensures tt) in
-    sym (c .loop-k .inv ∙ first-hit-under (passes p xs) k (length xs) (omega arith) hit)
+    record { value = sym (c .loop-k .inv ∙ first-hit-under (passes p xs) k (length xs) (omega arith) hit); within = omega arith }
 
 pub loop-k-again : need.loop-k-again
 loop-k-again g c =
@@ -25,4 +25,4 @@ pub returns : need.returns
 returns g c =
     let p = λ (x : g .T .Denot). g .T·Matches .hits x (c .args .key .now) in
     let xs = c .args .items .now in
-    sym (c .loop-k .inv ∙ first-past (passes p xs) (c .loop-k .k) (length xs) (omega arith))
+    record { value = sym (c .loop-k .inv ∙ first-past (passes p xs) (c .loop-k .k) (length xs) (omega arith)); within = tt }

@@ -12,7 +12,7 @@ returns-then-matches g c =
     let xs = c .args .items .now in
     let k = c .loop-k .k in
     let hit = passes-read p xs (k - 1) (c .index-items-k .result) (omega arith) (c .index-items-k .is) ∙ sym (c .if-matches .ensures tt) in
-    sym (c .loop-k .inv ∙ nearest-hit-under (passes p xs) k (omega arith) hit)
+    record { value = sym (c .loop-k .inv ∙ nearest-hit-under (passes p xs) k (omega arith) hit); within = (omega arith, omega arith) }
 
 pub loop-k-again : need.loop-k-again
 loop-k-again g c =
@@ -29,4 +29,4 @@ pub returns : need.returns
 returns g c =
     let p = λ (x : g .T .Denot). g .T·Matches .hits x (c .args .key .now) in
     let t = passes p (c .args .items .now) in
-    sym (c .loop-k .inv ∙ ap (nearest t) (omega arith) ∙ nearest-zero t)
+    record { value = sym (c .loop-k .inv ∙ ap (nearest t) (omega arith) ∙ nearest-zero t); within = tt }
