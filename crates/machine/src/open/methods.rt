@@ -1,0 +1,1 @@
+// Starting, stepping and closing a run.
