@@ -1,8 +1,10 @@
 -- A memory as the list of the cells once written.
 use mathlib.Core.Bool.{Bool, true, false, not, cond, _&&_, _||_}
-use mathlib.Core.List.{List, [], _∷_, _++_, map}
-use Prim.Native.Nat.{ℕ}
+use mathlib.Core.List.{List, [], _∷_, map}
+use mathlib.Core.Path.{_≡_}
+use Prim.Native.Nat.{ℕ, _<_}
 use lib.Dec.{eqb, ltb}
+use lib.ListN.{length, getD, take}
 use Rattle.std.specs.Iters.{counting}
 use Rattle.memory.specs.declared.cell.Cell.{Cell}
 use Rattle.memory.specs.declared.cell_list.Row.{Row}
@@ -31,3 +33,13 @@ cells-of rs = map (find rs) (counting 0 16)
 abbrev pub put : List Row → ℕ → Cell → List Row
 put [] a c = record { address = a; cell = c } ∷ []
 put (r ∷ rs) a c = cond (eqb (r .address) a) (record { address = a; cell = c } ∷ rs) (r ∷ put rs a c)
+
+-- A row past the end: never seen.
+abbrev pub blank-row : Row
+blank-row = record { address = 0; cell = zero-cell }
+
+-- The row at i is the first that has the address.
+pub record Placed (rs : List Row) (a i : ℕ) : Type 0 where
+  pub within : i < length rs
+  pub before : has (take i rs) a ≡ false
+  pub here : getD rs i blank-row .address ≡ a
