@@ -1,0 +1,4 @@
+pub mod WitnessesMean
+pub mod WitnessesRead
+pub mod WitnessesRecords
+pub mod WitnessesWritten
