@@ -1,7 +1,5 @@
 -- Witnesses are read as they mean, and written witnesses are read back.
-use mathlib.Core.Path.{_≡_, ap, _∙_}
-use mathlib.Core.List.{List}
-use Prim.Native.Nat.{ℕ}
+use mathlib.Core.Path.{ap, _∙_}
 use Rattle.fields.specs.Rows.{read-row}
 use Rattle.fields.proofs.Relations.{reads-read, rows-are-read-as-they-mean}
 use Rattle.witness.specs.Means.{Witnesses-are-read-as-they-mean, Written-witnesses-are-read-back}

@@ -1,17 +1,15 @@
 -- A well-formed witness is the bytes of the execution that it means.
-use mathlib.Core.Path.{_≡_, refl, sym, ap, _∙_}
-use mathlib.Core.Bool.{Bool, true, false, cond, not, _&&_}
+use mathlib.Core.Path.{_≡_, refl, sym, ap}
+use mathlib.Core.Bool.{Bool, true, false, cond, _&&_}
 use mathlib.Core.List.{List, [], _∷_, _++_}
 use mathlib.Core.Logic.{_⊎_, inl, inr}
 use Prim.Native.Nat.{ℕ, _+_, _%_, _<_, _≤_}
 use native.Mathlib.Omega.{arith}
 use lib.Dec.{eqb, ltb, leb}
 use lib.ListN.{length}
-use Rattle.std.specs.Options.{isSome}
 use Rattle.std.specs.shelf.Lists.{All, joined}
-use Rattle.std.specs.declared.option.Option.{Option}
 use Rattle.std.specs.declared.option.Option.the-variants.{Some, None}
-use Rattle.std.specs.declared.result.Result.the-variants.{Ok, Err}
+use Rattle.std.specs.declared.result.Result.the-variants.{Ok}
 use Rattle.std.proofs.shelf.Lists.{append-assoc, append-nil, length-append}
 use Rattle.std.proofs.shelf.Tests.{ltb-true, leb-true, eqb-true, and-parts}
 use Rattle.fields.specs.Fields.{field-bytes}
@@ -37,13 +35,14 @@ after-order ps xs ys _ w (Reads.field-first tag c rest t l a f k more) = absurd 
     no-field false false true h = let e : _≡_ {A = ℕ} 0 1 = cc in omega arith
     no-field false false false h = let e : _≡_ {A = ℕ} 0 1 = cc in omega arith
 
--- Behind the source field an order field comes, and nothing behind it.
+-- The bytes behind the source field are an order field.
 record Order-next (ps : List (List ℕ)) (xs : List Source) (b : List ℕ) (w : Execution) : Type 0 where
   contents : List ℕ
   front : b ≡ field-bytes order-tag contents
   fits : witness-fits order-tag (length contents) ≡ true
   means : w ≡ record { paths = ps; sources = xs; order = accesses-from contents }
 
+-- Behind the source field an order field comes, and nothing behind it.
 after-sources : (ps : List (List ℕ)) (xs : List Source) (b : List ℕ) (w : Execution) →
     Reads witness-format (record { paths = ps; sources = Some xs; order = None }) b w → Order-next ps xs b w
 after-sources ps xs _ w (Reads.at-end h) = absurd (let e : _≡_ {A = ℕ} 0 1 = cc in omega arith)
@@ -125,10 +124,11 @@ behind-paths false true z tag n p q h = inr (eqb-true tag source-tag q, ltb-true
 behind-paths false false true tag n p q h = absurd (let e : _≡_ {A = ℕ} 0 1 = cc in omega arith)
 behind-paths false false false tag n p q h = absurd (let e : _≡_ {A = ℕ} 0 1 = cc in omega arith)
 
--- What is taken in of a path field, and of the source field.
+-- What is known after a path field.
 path-taken : (qs : List (List ℕ)) (tag : ℕ) (c : List ℕ) (t : Draft) → tag ≡ path-tag → witness-taken (paths-so-far qs) tag c ≡ Ok t → t ≡ paths-so-far (qs ++ c ∷ [])
 path-taken qs tag c t e k = let q : witness-taken (paths-so-far qs) path-tag c ≡ Ok t = rw e at k in cc
 
+-- What is known after the source field.
 source-taken : (qs : List (List ℕ)) (tag : ℕ) (c : List ℕ) (t : Draft) → tag ≡ source-tag → witness-taken (paths-so-far qs) tag c ≡ Ok t →
     t ≡ record { paths = qs; sources = Some (sources-from c); order = None }
 source-taken qs tag c t e k = let q : witness-taken (paths-so-far qs) source-tag c ≡ Ok t = rw e at k in cc
@@ -158,16 +158,18 @@ field-behind qs tag c rest t w few a f k more next = go (behind-paths (eqb tag p
 paths-unfinished : (qs : List (List ℕ)) (w : Execution) → witness-whole (paths-so-far qs) ≡ Ok w → ⊥
 paths-unfinished qs w h = let e : _≡_ {A = ℕ} 0 1 = cc in omega arith
 
+-- Behind path fields more of them come, then the source field, then the order field.
 after-paths : (s : Draft) (qs : List (List ℕ)) (b : List ℕ) (w : Execution) → s ≡ paths-so-far qs → length qs ≤ 4 → Reads witness-format s b w → Paths-next qs b w
 after-paths s qs _ w d few (Reads.at-end h) = absurd (paths-unfinished qs w (rw d at h))
 after-paths s qs _ w d few (Reads.field-first tag c rest t l a f k more) =
     field-behind qs tag c rest t w few (rw d at a) f (rw d at k) more (λ r m. after-paths t (qs ++ c ∷ []) rest w r m more)
 
--- What holds of each element of joined lists holds of the first list's, and of the second's.
+-- What holds of each element of joined lists holds of the first list's.
 all-front : {X : Type 0} (Q : X → Type 0) (xs ys : List X) → All Q (xs ++ ys) → All Q xs
 all-front Q [] ys h = tt
 all-front Q (x ∷ xs) ys h = (h .0, all-front Q xs ys (h .1))
 
+-- It holds of the second list's.
 all-behind : {X : Type 0} (Q : X → Type 0) (xs ys : List X) → All Q (xs ++ ys) → All Q ys
 all-behind Q [] ys h = h
 all-behind Q (x ∷ xs) ys h = all-behind Q xs ys (h .1)
@@ -177,30 +179,34 @@ source-contents : (ps : List ℕ) (s o : List ℕ) → All (λ x. x < 256) (ps +
 source-contents ps s o h =
     all-front (λ x. x < 256) (field-bytes source-tag s) o (all-behind (λ x. x < 256) ps (field-bytes source-tag s ++ o) h) .1 .1 .1
 
--- A well-formed witness means an execution within the bounds, and is its bytes.
 module _ (b : List ℕ) (w : Execution) (n : Paths-next [] b w) (bytes : All (λ x. x < 256) b) where
   -- The execution that the fields state.
   abbrev stated : Execution
   stated = record { paths = n .paths; sources = sources-from (n .sources); order = accesses-from (n .order) }
 
+  -- Whole sources, at most 64.
   source-size : (length (n .sources) ≤ 256) × (length (n .sources) % 4 ≡ 0)
   source-size =
       let k = and-parts (leb (length (n .sources)) 256) (eqb (length (n .sources) % 4) 0) (n .sources-fit) in
       (leb-true (length (n .sources)) 256 (k .0), eqb-true (length (n .sources) % 4) 0 (k .1))
 
+  -- Whole accesses, at most 64.
   order-size : (length (n .order) ≤ 128) × (length (n .order) % 2 ≡ 0)
   order-size =
       let k = and-parts (leb (length (n .order)) 128) (eqb (length (n .order) % 2) 0) (n .order-fits) in
       (leb-true (length (n .order)) 128 (k .0), eqb-true (length (n .order) % 2) 0 (k .1))
 
+  -- The source field has the bytes of its sources.
   source-records : Whole-records source-bytes 4 (sources-from (n .sources)) (n .sources)
   source-records =
       whole-sources (n .sources)
       (source-contents (joined (field-bytes path-tag) (n .paths)) (n .sources) (field-bytes order-tag (n .order)) (rw (n .front) at bytes)) (source-size .1)
 
+  -- The order field has the bytes of its accesses.
   order-records : Whole-records access-bytes 2 (accesses-from (n .order)) (n .order)
   order-records = whole-accesses (n .order) (order-size .1)
 
+  -- It is within the bounds.
   stated-within : Within stated
   stated-within =
       let ss = source-size .0 in
@@ -215,10 +221,12 @@ module _ (b : List ℕ) (w : Execution) (n : Paths-next [] b w) (bytes : All (λ
         few-accesses = omega arith;
       }
 
+  -- The bytes are its bytes.
   stated-bytes : b ≡ bytes-of stated
   unfolding bytes-of
   stated-bytes = rw (source-records .same, order-records .same) (n .front)
 
+  -- It is what the witness means.
   encoded : Within w × (b ≡ bytes-of w)
   encoded = rw (n .means) (stated-within, stated-bytes)
 
