@@ -90,7 +90,8 @@ closed q s = record {
   finished = all-finished (q .code) (s .cores);
   registers = map registers-of (s .cores);
   execution = witness-of-state s;
-  cells = s .cells }
+  cells = s .cells;
+}
 
 -- A register of a closed run: refused if the run is unfinished, then if the processor or the register is absent.
 abbrev pub register-answer : Closed → ℕ → ℕ → Result ℕ Refusal

@@ -103,7 +103,8 @@ abbrev pub changed : State → ℕ → ℕ → Change → State
 changed s p i ch = record {
   cores = set (s .cores) p (core-changed (core-at s p) i ch);
   order = order-after (ch .effect) (order-kept (ch .cut) p (s .order)) (record { processor = p; position = i });
-  cells = cells-after (ch .effect) (s .cells) }
+  cells = cells-after (ch .effect) (s .cells);
+}
 
 -- A change that is made, with the number of entries that it removes.
 abbrev pub made : State → ℕ → ℕ → Change → Outcome
@@ -121,21 +122,33 @@ done s p i (Ok (Make ch)) = made s p i ch
 done s p i (Ok (Read a)) = read s p i a
 done s p i (Err e) = refused e
 
--- What becomes of a fetch: its entry is the youngest, and the counter goes on as guessed.
+-- The processor after a fetch: its entry is the youngest of at most sixteen, and the counter goes on as guessed.
+abbrev pub core-fetched : Core → Entry → Core
+core-fetched c e = record { counter = e .next; entries = take 16 (c .entries ++ e ∷ []) }
+
+-- What becomes of a fetch.
 abbrev pub fetched : State → ℕ → Result Entry Refusal → Outcome
-fetched s p (Ok e) = went 0 (with-core s p (record { counter = e .next; entries = core-at s p .entries ++ e ∷ [] }))
+fetched s p (Ok e) = went 0 (with-core s p (core-fetched (core-at s p) e))
 fetched s p (Err e) = refused e
+
+-- A fetch of processor p.
+unfoldable pub fetch-outcome : Litmus → State → ℕ → ℕ → ℕ → Outcome
+fetch-outcome q s p i g = fetched s p (fetch (code-at q p) (core-at s p .counter) (core-at s p .entries) i g)
+
+-- A step of rules 2 to 8 of processor p.
+unfoldable pub act-outcome : State → Rule → ℕ → ℕ → ℕ → Outcome
+act-outcome s r p i g = done s p i (act r (core-at s p .entries) p i g)
 
 -- A step by its rule, on a processor that there is.
 abbrev pub by-rule : Litmus → State → Rule → ℕ → ℕ → ℕ → Outcome
-by-rule q s rule.Fetch p i g = fetched s p (fetch (code-at q p) (core-at s p .counter) (core-at s p .entries) i g)
-by-rule q s rule.Arithmetic p i g = done s p i (act rule.Arithmetic (core-at s p .entries) p i g)
-by-rule q s rule.Branch p i g = done s p i (act rule.Branch (core-at s p .entries) p i g)
-by-rule q s rule.Fence p i g = done s p i (act rule.Fence (core-at s p .entries) p i g)
-by-rule q s rule.Load p i g = done s p i (act rule.Load (core-at s p .entries) p i g)
-by-rule q s rule.StoreData p i g = done s p i (act rule.StoreData (core-at s p .entries) p i g)
-by-rule q s rule.Store p i g = done s p i (act rule.Store (core-at s p .entries) p i g)
-by-rule q s rule.Address p i g = done s p i (act rule.Address (core-at s p .entries) p i g)
+by-rule q s rule.Fetch p i g = fetch-outcome q s p i g
+by-rule q s rule.Arithmetic p i g = act-outcome s rule.Arithmetic p i g
+by-rule q s rule.Branch p i g = act-outcome s rule.Branch p i g
+by-rule q s rule.Fence p i g = act-outcome s rule.Fence p i g
+by-rule q s rule.Load p i g = act-outcome s rule.Load p i g
+by-rule q s rule.StoreData p i g = act-outcome s rule.StoreData p i g
+by-rule q s rule.Store p i g = act-outcome s rule.Store p i g
+by-rule q s rule.Address p i g = act-outcome s rule.Address p i g
 
 -- A step by its rule, if there is one with its number.
 abbrev pub numbered : Litmus → State → Step → Option Rule → Outcome

@@ -23,18 +23,18 @@ core-of p = record { counter = p .counter; entries = items (p .entries) }
 abbrev pub cores-of : ℕ → Processors → List Core
 cores-of n ps = take n (map core-of (ps .rows))
 
+-- The litmus test that an open run runs.
+abbrev pub run-question : {M : Type 0} → OpenRun M → Litmus
+run-question r = litmus-of (now (r .question))
+
 module _ {M : Type 0} (cells : M → List Cell) where
-
-  -- The litmus test that an open run runs.
-  abbrev pub run-question : OpenRun M → Litmus
-  run-question r = litmus-of (now (r .question))
-
   -- The state of an open run.
   abbrev pub open-state : OpenRun M → State
   open-state r = record {
     cores = cores-of (length (run-question r .code)) (r .processors);
     order = items (r .order);
-    cells = cells (r .memory) }
+    cells = cells (r .memory);
+  }
 
   -- What a closed run holds.
   abbrev pub closed-state : ClosedRun M → Closed
@@ -42,4 +42,5 @@ module _ {M : Type 0} (cells : M → List Cell) where
     finished = r .finished;
     registers = take (r .processors) (r .registers);
     execution = execution-of (r .witness);
-    cells = cells (r .memory) }
+    cells = cells (r .memory);
+  }

@@ -1,8 +1,8 @@
 // A run that takes steps.
+use super::processor::Processors;
 use bounded::vector::Bounded;
 use memory::memory::Memory;
 use question::question::Question;
-use super::processor::Processors;
 use witness::record::Access;
 
 pub mod methods;

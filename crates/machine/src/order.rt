@@ -19,7 +19,10 @@ fn stays(processor: u8, keep: usize, access: Access) -> bool
 fn kept(order: Bounded<Access, 64>, processor: u8, keep: usize) -> Bounded<Access, 64>
     ensures { λ r. ⌜ items r ≡ only (stays processor keep) (items order) ⌝ }
 {
-    let mut rest = Bounded::new(Access { processor: 0, position: 0 });
+    let mut rest = Bounded::new(Access {
+        processor: 0,
+        position: 0,
+    });
     for access in order.as_slice() {
         if stays(processor, keep, *access) {
             rest.push(*access);

@@ -1,4 +1,6 @@
 // The processors of a run.
+ghost use mathlib.Core.Path.{_≡_};
+ghost use lib.ListN.{length};
 use bounded::vector::Bounded;
 use rules::entry::Entry;
 
@@ -15,4 +17,5 @@ pub struct Processor {
 #[derive(Copy)]
 pub struct Processors {
     pub(super) rows: [Processor; 4],
+    ghost four: { length rows ≡ 4 },
 }

@@ -9,4 +9,4 @@ use Rattle.machine.proofs.order.kept.Given as given
 abbrev pub Inv-loop-access : given.InvT-loop-access
 Inv-loop-access l =
     (length (items (l .rest)) ≤ l .access-index) ×
-    (only (stays (l .processor) (l .keep)) (items (l .order)) ≡ items (l .rest) ++ only (stays (l .processor) (l .keep)) (drop (l .access-index) (items (l .order))))
+    (only (stays (l .processor) (l .keep)) (l .access-items) ≡ items (l .rest) ++ only (stays (l .processor) (l .keep)) (drop (l .access-index) (l .access-items)))

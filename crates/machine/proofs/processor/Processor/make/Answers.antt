@@ -22,7 +22,8 @@ returns-in-Some c =
     let i = c .args .position in
     let e = c .args .change .entry in
     let count : c .len-before .result - c .len .result ≡ length xs - k =
-      omega (arith, ap length (c .truncate .ensures), length-take k ys, ap length (c .set .ensures .items), length-set xs i e) in
+    omega (arith, ap length (c .truncate .ensures), length-take k ys, ap length (c .set .ensures .items), length-set xs i e) in
     record {
       value = rw (c .in-Some .is) count;
-      core = rw (c .in-Some .is) (ap (λ es. record { counter = c .in-Some .cut .counter; entries = es }) (c .truncate .ensures ∙ ap (take k) (c .set .ensures .items))) }
+      core = rw (c .in-Some .is) (ap (λ es. record { counter = c .in-Some .cut .counter; entries = es }) (c .truncate .ensures ∙ ap (take k) (c .set .ensures .items)));
+    }
