@@ -3,10 +3,11 @@ use mathlib.Core.Path.{_≡_, refl, sym, ap, _∙_}
 use mathlib.Core.List.{List, [], _∷_, map}
 use Prim.Native.Nat.{ℕ, zero, suc, _<_, _≤_}
 use native.Mathlib.Omega.{arith}
-use lib.ListN.{length, getD, set, take}
+use lib.ListN.{length, getD, set, take, replicate}
 use Rattle.std.proofs.shelf.Lists.{length-map, length-take, getD-map, map-set, getD-take}
 use Rattle.bounded.specs.Items.{items}
 use Rattle.question.specs.Views.{instructions-of, litmus-of}
+use Rattle.question.specs.declared.instruction.Instruction.{Instruction}
 use Rattle.question.specs.declared.question.Question.{Question}
 use Rattle.machine.specs.declared.processor.Processor.{Processor}
 use Rattle.memory.specs.declared.cell.Cell.{Cell}
@@ -51,3 +52,9 @@ pub entries-read : {M : Type 0} (r : OpenRun M) (p : ℕ) (d : Processor) → p 
   items (getD (r .processors .rows) p d .entries) ≡ getD (cores-of (length (run-question r .code)) (r .processors)) p empty-core .entries
 entries-read r p d l h =
     ap (λ x. x .entries) (core-read (r .processors .rows) p d l ∙ sym (core-within (length (run-question r .code)) (map core-of (r .processors .rows)) p h))
+
+-- Some of four empty processors, one for each code.
+pub all-empty : (codes : List (List Instruction)) (n : ℕ) → length codes ≤ n → take (length codes) (replicate n empty-core) ≡ map (λ _. empty-core) codes
+all-empty [] n h = refl
+all-empty (c ∷ cs) zero h = absurd (omega arith)
+all-empty (c ∷ cs) (suc n) h = ap (λ xs. empty-core ∷ xs) (all-empty cs n (omega arith))

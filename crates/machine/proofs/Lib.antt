@@ -1,2 +1,4 @@
 pub mod Orders
 pub mod Cores
+pub mod Outcomes
+pub mod StartCells
