@@ -7,7 +7,7 @@ use lib.ListN.{length, getD, set, take, replicate}
 use Rattle.std.proofs.shelf.Lists.{length-map, length-take, getD-map, map-set, getD-take}
 use Rattle.bounded.specs.Items.{items}
 use Rattle.question.specs.Views.{instructions-of, litmus-of}
-use Rattle.question.specs.declared.instruction.Instruction.{Instruction}
+use Rattle.instructions.specs.declared.instruction.Instruction.{Instruction}
 use Rattle.question.specs.declared.question.Question.{Question}
 use Rattle.machine.specs.declared.processor.Processor.{Processor}
 use Rattle.memory.specs.declared.cell.Cell.{Cell}
@@ -49,7 +49,7 @@ same-state a b c = λ i. record { cores = a i; order = b i; cells = c i }
 
 -- The entries of a processor that was read are those of its core in the state.
 pub entries-read : {M : Type 0} (r : OpenRun M) (p : ℕ) (d : Processor) → p < length (r .processors .rows) → p < length (run-question r .code) →
-  items (getD (r .processors .rows) p d .entries) ≡ getD (cores-of (length (run-question r .code)) (r .processors)) p empty-core .entries
+    items (getD (r .processors .rows) p d .entries) ≡ getD (cores-of (length (run-question r .code)) (r .processors)) p empty-core .entries
 entries-read r p d l h =
     ap (λ x. x .entries) (core-read (r .processors .rows) p d l ∙ sym (core-within (length (run-question r .code)) (map core-of (r .processors .rows)) p h))
 

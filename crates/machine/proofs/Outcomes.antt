@@ -36,7 +36,6 @@ acts q s rule.Store p i g n = refl
 acts q s rule.Address p i g n = refl
 
 module _ (q : Litmus) (s : State) (st : Step) where
-
   pub no-rule : rule-of (st .rule) ≡ None → step-outcome q s st ≡ refused RuleOrProcessorAbsent
   unfolding step-outcome
   no-rule e = ap (numbered q s st) e

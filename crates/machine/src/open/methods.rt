@@ -44,7 +44,14 @@ fn write_start<M: Memory>(memory: &mut M, start: &[u16])
     ensures { λ _. ⌜ M·Memory .cells (now (memory .exit)) ≡ map start-cell (now (start .entry)) ⌝ }
 {
     for address in 0..16u16 {
-        memory.write(0, address, Cell { value: start[address as usize], mark: Mark::Start });
+        memory.write(
+            0,
+            address,
+            Cell {
+                value: start[address as usize],
+                mark: Mark::Start,
+            },
+        );
     }
 }
 
@@ -56,8 +63,16 @@ impl<'q, M: Memory> OpenRun<'q, M> {
     {
         let mut memory = memory;
         write_start(&mut memory, question.start());
-        let order = Bounded::new(Access { processor: 0, position: 0 });
-        OpenRun { question, processors: Processors::new(), order, memory }
+        let order = Bounded::new(Access {
+            processor: 0,
+            position: 0,
+        });
+        OpenRun {
+            question,
+            processors: Processors::new(),
+            order,
+            memory,
+        }
     }
 
     /// Carries out one step and answers how many entries it removed, or refuses it and changes nothing.

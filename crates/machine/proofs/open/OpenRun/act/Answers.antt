@@ -66,8 +66,9 @@ returns-in-Read g c =
     let t = same-state {cs = s .cores} {o = s .order} refl refl (c .read-cell .ensures .same) in
     let es = core-at s p .entries in
     let u = c .loaded-change .ensures ∙ ap (λ x. load-change (at x i) (c .read-cell .result .value) (c .read-cell .result .mark)) seen
-      ∙ ap (λ x. load-change (at es i) (x .value) (x .mark)) (c .read-cell .ensures .value) in
+    ∙ ap (λ x. load-change (at es i) (x .value) (x .mark)) (c .read-cell .ensures .value) in
     record {
       value = ap Ok (c .make-in-Read .ensures .value ∙ ap (λ x. removed (x .cut) (length es)) u) ∙ sym (ap answer o);
       state = c .make-in-Read .ensures .state ∙ ap (λ z. changed z p i (c .loaded-change .result)) t ∙ ap (changed s p i) u ∙ sym (ap (after s) o);
-      question = c .make-in-Read .ensures .question }
+      question = c .make-in-Read .ensures .question;
+    }

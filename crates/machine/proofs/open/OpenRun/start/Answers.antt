@@ -13,4 +13,5 @@ returns g c =
     let codes = litmus-of q .code in
     record {
       question = refl;
-      state = same-state (ap (take (length codes)) (c .new .ensures) ∙ all-empty codes 4 (few-processors q)) (c .new-order .ensures) (c .write-start .ensures ∙ ap (map start-cell) (c .start .ensures)) }
+      state = same-state (ap (take (length codes)) (c .new .ensures) ∙ all-empty codes 4 (few-processors q)) (c .new-order .ensures) (c .write-start .ensures ∙ ap (map start-cell) (c .start .ensures));
+    }
