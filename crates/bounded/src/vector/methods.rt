@@ -24,7 +24,7 @@ impl<T: Copy, const N: usize> Bounded<T, N> {
     pub fn len(&self) -> usize
         ensures { λ r. ⌜ r ≡ length (items (now (self .entry))) ⌝ }
     {
-        self.len
+        self.as_slice().len()
     }
 
     /// The element at `index`, or nothing past the end.
