@@ -1,1 +1,4 @@
 pub mod Computed
+pub mod FiresSteps
+pub mod OlderEntries
+pub mod ReadyValues
