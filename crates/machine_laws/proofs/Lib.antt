@@ -1,1 +1,11 @@
 pub mod Computed
+pub mod FiresAddress
+pub mod FiresFetch
+pub mod FiresGo
+pub mod FiresLoad
+pub mod FiresLocal
+pub mod FiresSteps
+pub mod FiresStore
+pub mod GuardTests
+pub mod OlderEntries
+pub mod ReadyValues
