@@ -1,3 +1,4 @@
 pub mod Computed
 pub mod GoneReady
 pub mod GoneTests
+pub mod GoneActs
