@@ -2,3 +2,4 @@ pub mod Computed
 pub mod GoneReady
 pub mod GoneTests
 pub mod GoneActs
+pub mod GoneRules
