@@ -3,3 +3,5 @@ pub mod GoneReady
 pub mod GoneTests
 pub mod GoneActs
 pub mod GoneRules
+pub mod GoneLoad
+pub mod GoneAddress
