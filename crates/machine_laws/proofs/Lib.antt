@@ -5,3 +5,5 @@ pub mod GoneActs
 pub mod GoneRules
 pub mod GoneLoad
 pub mod GoneAddress
+pub mod GoneFetch
+pub mod GoneFires
