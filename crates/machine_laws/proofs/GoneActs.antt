@@ -1,7 +1,6 @@
 -- A step of rules 2 to 8 that goes passed its tests.
-use mathlib.Core.Path.{_≡_, refl, sym, _∙_, ap}
+use mathlib.Core.Path.{_≡_, refl}
 use mathlib.Core.Bool.{Bool, true, false, cond, _&&_}
-use mathlib.Core.List.{List}
 use Prim.Native.Nat.{ℕ, _<_}
 use native.Mathlib.Omega.{arith}
 use lib.Dec.{eqb, ltb}
@@ -9,13 +8,13 @@ use lib.ListN.{length}
 use Rattle.std.specs.declared.option.Option.{Option}
 use Rattle.std.specs.declared.option.Option.the-variants.{Some, None}
 use Rattle.std.specs.declared.result.Result.{Result}
-use Rattle.std.specs.declared.result.Result.the-variants.{Ok, Err}
+use Rattle.std.specs.declared.result.Result.the-variants.{Err}
 use Rattle.std.proofs.shelf.Tests.{and-parts, ltb-true, eqb-true}
 use Rattle.fields.specs.declared.refusal.Refusal.{Refusal}
 use Rattle.fields.specs.declared.refusal.Refusal.the-variants.{PositionOrGuessNotAllowed, KindDoesNotSuitRule, StepAlreadyMade}
 use Rattle.fields.specs.Rows.{then}
 use Rattle.question.specs.Litmus.{Litmus}
-use Rattle.rules.specs.Act.{act, action, making}
+use Rattle.rules.specs.Act.{action, making}
 use Rattle.rules.specs.Changes.{wanted, unless-held}
 use Rattle.rules.specs.Rules as rules
 use Rattle.rules.specs.declared.change.Action.{Action}
@@ -23,7 +22,7 @@ use Rattle.rules.specs.declared.change.Change.{Change}
 use Rattle.rules.specs.declared.rule.Rule.{Rule}
 use Rattle.machine.specs.declared.step.Step.{Step}
 use Rattle.machine.specs.State.{State}
-use Rattle.machine.specs.Steps.{Outcome, refused, went, done, act-outcome}
+use Rattle.machine.specs.Steps.{refused, went, done, act-outcome}
 use Rattle.machine.specs.Fires.{buffer, entry, instruction, Fires}
 
 -- A refused step does not go.
@@ -46,6 +45,7 @@ pub record Acted (s : State) (r : Rule) (p i g n : ℕ) (t : State) : Type 0 whe
   pub acted : done s p i (action r (buffer s p) p i) ≡ went n t
 
 module _ (s : State) (p i n : ℕ) (t : State) where
+  -- A step of rules 2 to 8 that goes passed its three tests.
   pub gone-acted : (r : Rule) (g : ℕ) → act-outcome s r p i g ≡ went n t → Acted s r p i g n t
   unfolding act-outcome
   gone-acted r g h = go (ltb i (length (buffer s p)) && eqb g 0) (rules.suits r (instruction s p i)) (rules.made r (entry s p i)) refl refl refl h

@@ -1,5 +1,5 @@
 -- Rule 8: a step that goes fires the rule, with or without a removal.
-use mathlib.Core.Path.{_≡_, refl, _∙_, sym, ap}
+use mathlib.Core.Path.{_≡_, refl, _∙_, ap}
 use mathlib.Core.Bool.{Bool, true, false, cond, _&&_}
 use Prim.Native.Nat.{ℕ, _-_, _<_}
 use native.Mathlib.Omega.{arith}
@@ -69,6 +69,7 @@ module _ (q : Litmus) (s : State) (p i g n : ℕ) (t : State) (here : p < length
             omega arith
     by-younger (Some m) e h = if-done-load m e (done-load m) refl h
 
+  -- Rule 8.
   pub gone-address : Fires q s (step 8 p i 0) n t
   gone-address =
       let u = value-there s p i n t _ _ (act .acted) in

@@ -44,6 +44,7 @@ module _ (q : Litmus) (s : State) (p : ℕ) (here : p < length (s .cores)) (more
       ]
 
 module _ (q : Litmus) (s : State) (p i g n : ℕ) (t : State) (here : p < length (s .cores)) where
+  -- Rule 1.
   pub gone-fetch : fetch-outcome q s p i g ≡ went n t → Fires q s (step 1 p i g) n t
   unfolding fetch-outcome
   gone-fetch h = go (ltb (core-at s p .counter) (length (code-at q p))) refl (ltb (length (buffer s p)) 16) refl (fetch-fits (instruction-at (code-at q p) (core-at s p .counter)) i g) refl h

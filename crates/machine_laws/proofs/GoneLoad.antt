@@ -37,6 +37,7 @@ module _ (q : Litmus) (s : State) (p i g n : ℕ) (t : State) (here : p < length
         (Fires.load-from-memory p i a (here, act .within) (act .suited) (act .not-made) at-a free (none-open s p i (act .within) a e)) h
     from-either (Some j) e h = from-store j e (entry s p j .datum) refl (stores (instruction s p j)) refl h
 
+  -- Rule 5.
   pub gone-load : Fires q s (step 5 p i 0) n t
   gone-load =
       let u = value-there-to-act s p i n t _ _ (act .acted) in

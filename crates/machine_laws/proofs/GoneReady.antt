@@ -1,7 +1,6 @@
 -- An operand that is computed as ready with a value is ready with it.
-use mathlib.Core.Path.{_≡_, refl, sym, _∙_, ap}
+use mathlib.Core.Path.{_≡_, refl, sym, _∙_}
 use mathlib.Core.Bool.{Bool, true, false, cond}
-use mathlib.Core.List.{List}
 use Prim.Native.Nat.{ℕ, _<_}
 use native.Mathlib.Omega.{arith}
 use lib.ListN.{length}
@@ -30,8 +29,8 @@ module _ (s : State) (p i : ℕ) (l : i < length (buffer s p)) where
   one-writes : (r x j : ℕ) → Nearest (passes (writes-register r) (buffer s p)) i j → entry s p j .done ≡ true → entry s p j .value ≡ x → Ready s p i (Some r) x
   one-writes r x j n d z =
       let u : Ready s p i (Some r) (entry s p j .value) =
-          from-writer r j (n .below) (as-entry (writes-register r) true j (n .below) (n .hit))
-              (λ k a b. as-entry (writes-register r) false k b (n .between k a b)) d in
+      from-writer r j (n .below) (as-entry (writes-register r) true j (n .below) (n .hit))
+      (λ k a b. as-entry (writes-register r) false k b (n .between k a b)) d in
       rw z at u
 
   -- What is computed as ready is ready.
@@ -46,6 +45,7 @@ module _ (s : State) (p i : ℕ) (l : i < length (buffer s p)) where
           cond b (Some (entry s p j .value)) None ≡ Some x → Ready s p i (Some r) x
       if-done j n true d f = one-writes r x j n d (let z : entry s p j .value ≡ x = cc in z)
       if-done j n false d f = let z : _≡_ {A = ℕ} 0 1 = cc in absurd (omega arith)
+
       go : (w : Option ℕ) → writer (buffer s p) r i ≡ w → written-by (buffer s p) w ≡ Some x → Ready s p i (Some r) x
       go None w f = none-writes r x w (let z : 0 ≡ x = cc in z)
       go (Some j) w f = if-done j (nearest-some (passes (writes-register r) (buffer s p)) i j w) (entry s p j .done) refl f

@@ -1,8 +1,7 @@
 -- What the searches of the rules found, as statements on older and younger entries.
-use mathlib.Core.Path.{_≡_, refl, sym, _∙_, ap}
+use mathlib.Core.Path.{_≡_, refl, sym, _∙_}
 use mathlib.Core.Bool.{Bool, true, false, not, _&&_, _||_}
-use mathlib.Core.List.{List}
-use Prim.Native.Nat.{ℕ, _+_, _-_, _<_, _≤_}
+use Prim.Native.Nat.{ℕ, _+_, _-_, _<_}
 use native.Mathlib.Omega.{arith}
 use lib.ListN.{length}
 use Rattle.std.specs.Options.{isSome}
@@ -16,7 +15,7 @@ use Rattle.instructions.specs.Kinds.{loads, stores, access, branches, of-type, 
 use Rattle.search.specs.Search.{nearest, first, passes, Nearest, First}
 use Rattle.search.proofs.Searches.{nearest-some, nearest-none, first-some, first-is, passes-at}
 use Rattle.rules.specs.declared.entry.Entry.{Entry}
-use Rattle.rules.specs.Entries.{at, blank}
+use Rattle.rules.specs.Entries.{blank}
 use Rattle.rules.specs.Tests.{same-cell, open-for-fence, open-fence-to-load, open-fence-to-store, open-to-cell, holds-store, to-cell}
 use Rattle.machine.specs.State.{State}
 use Rattle.machine.specs.Fires.{buffer, entry, instruction, Older, Open-to, Nearest-open, First-younger}
@@ -28,9 +27,19 @@ closed true d e h = not-false d e
 closed false d e h = absurd (both-ways false refl h)
 
 -- An entry that is not an open access of a fence's first type is done, if it is an access of a type that the fence puts first.
-closed-for-fence : (fence : Instruction) (e : Entry) → open-for-fence fence e ≡ false → (t : AccessType) → fence-from t fence ≡ true → of-type t (e .instruction) ≡ true → e .done ≡ true
-closed-for-fence fence e f access-type.Load a b = closed _ (e .done) f (or-left _ (fence-from access-type.Store fence && stores (e .instruction)) (and-from (fence-from access-type.Load fence) (loads (e .instruction)) a b))
-closed-for-fence fence e f access-type.Store a b = closed _ (e .done) f (or-right (fence-from access-type.Load fence && loads (e .instruction)) _ (and-from (fence-from access-type.Store fence) (stores (e .instruction)) a b))
+closed-for-fence : (fence : Instruction) (e : Entry) → open-for-fence fence e ≡ false →
+    (t : AccessType) → fence-from t fence ≡ true → of-type t (e .instruction) ≡ true → e .done ≡ true
+closed-for-fence fence e f t a b = closed (first-loads || first-stores) (e .done) f (first-type t a b)
+  where
+    first-loads : Bool
+    first-loads = fence-from access-type.Load fence && loads (e .instruction)
+
+    first-stores : Bool
+    first-stores = fence-from access-type.Store fence && stores (e .instruction)
+
+    first-type : (u : AccessType) → fence-from u fence ≡ true → of-type u (e .instruction) ≡ true → (first-loads || first-stores) ≡ true
+    first-type access-type.Load x y = or-left first-loads first-stores (and-from (fence-from access-type.Load fence) (loads (e .instruction)) x y)
+    first-type access-type.Store x y = or-right first-loads first-stores (and-from (fence-from access-type.Store fence) (stores (e .instruction)) x y)
 
 -- The test for an open access to a cell tells one.
 pub is-open : (a : ℕ) (e : Entry) → open-to-cell a e ≡ true → Open-to a e
@@ -107,10 +116,10 @@ module _ (s : State) (p i : ℕ) (l : i < length (buffer s p)) where
   pub found-younger : (a m : ℕ) → first-younger a ≡ Some m → First-younger s p i a m
   found-younger a m e =
       let f : First (passes (to-cell a) (buffer s p)) (i + 1) (length (buffer s p) - (i + 1)) m =
-          first-some (passes (to-cell a) (buffer s p)) (i + 1) (length (buffer s p) - (i + 1)) m e in
+      first-some (passes (to-cell a) (buffer s p)) (i + 1) (length (buffer s p) - (i + 1)) m e in
       let w : m < length (buffer s p) = omega (arith, f .within) in
       let h : (access (instruction s p m) ≡ true) × (same-cell a (entry s p m .address) ≡ true) =
-          and-parts (access (instruction s p m)) (same-cell a (entry s p m .address)) (sym (passes-at (to-cell a) (buffer s p) m blank w) ∙ f .hit) in
+      and-parts (access (instruction s p m)) (same-cell a (entry s p m .address)) (sym (passes-at (to-cell a) (buffer s p) m blank w) ∙ f .hit) in
       record {
         younger = omega (arith, f .from);
         within = w;
@@ -133,8 +142,9 @@ module _ (s : State) (p i : ℕ) (l : i < length (buffer s p)) where
       go : (k : ℕ) → i < k → k < m → (b : Bool) → to-cell a (entry s p k) ≡ b → b ≡ false
       go k x y true e =
           let h : (access (instruction s p k) ≡ true) × (same-cell a (entry s p k .address) ≡ true) =
-              and-parts (access (instruction s p k)) (same-cell a (entry s p k .address)) e in
+          and-parts (access (instruction s p k)) (same-cell a (entry s p k .address)) e in
           absurd (f .none-between k x y (h .0) (h .1))
       go k x y false e = refl
+
       not-there : (k : ℕ) → i < k → k < m → to-cell a (entry s p k) ≡ false
       not-there k x y = go k x y (to-cell a (entry s p k)) refl
