@@ -9,3 +9,11 @@ pub mod FiresStore
 pub mod GuardTests
 pub mod OlderEntries
 pub mod ReadyValues
+pub mod GoneReady
+pub mod GoneTests
+pub mod GoneActs
+pub mod GoneRules
+pub mod GoneLoad
+pub mod GoneAddress
+pub mod GoneFetch
+pub mod GoneFires
