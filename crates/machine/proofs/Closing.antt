@@ -2,18 +2,26 @@
 use mathlib.Core.Path.{_≡_, refl, sym, ap, _∙_}
 use mathlib.Core.Bool.{Bool, true, false, cond, _&&_}
 use mathlib.Core.List.{List, [], _∷_, _++_, map}
-use Prim.Native.Nat.{ℕ, _+_, _<_, _≤_}
+use Prim.Native.Nat.{ℕ, _+_, _*_, _<_, _≤_}
 use native.Mathlib.Omega.{arith}
+use lib.Dec.{ltb}
 use lib.ListN.{length, getD, take, drop}
+use Rattle.std.specs.declared.option.Option.{Option}
+use Rattle.std.specs.declared.option.Option.the-variants.{Some, None}
 use Rattle.std.specs.shelf.Lists.{joined}
-use Rattle.std.proofs.shelf.Lists.{at-drop-more, at-drop-all, drop-more, drop-all, append-nil, joined-more, take-more, take-all, take-map, map-push, map-more}
+use Rattle.std.proofs.shelf.Lists.{at-drop-more, at-drop-all, drop-more, drop-all, append-nil, joined-more, take-more, take-all, take-map, map-push, map-more, length-append, length-take, length-map}
+use Rattle.std.proofs.shelf.Tests.{lt-ltb}
+use Rattle.bounded.specs.Items.{items}
+use Rattle.bounded.specs.declared.vector.Bounded.{Bounded}
 use Rattle.bounded.proofs.Takes.{take-append-take}
 use Rattle.question.specs.Kinds.{loads}
 use Rattle.question.specs.declared.instruction.Instruction.{Instruction}
 use Rattle.rules.specs.declared.entry.Entry.{Entry}
+use Rattle.witness.specs.Execution.{Execution}
+use Rattle.witness.specs.declared.record.Access.{Access}
 use Rattle.witness.specs.declared.record.Source.{Source}
 use Rattle.machine.specs.declared.processor.Processor.{Processor}
-use Rattle.machine.specs.Results.{all-done, core-finished, all-finished, source-record, entry-sources, core-sources}
+use Rattle.machine.specs.Results.{all-done, core-finished, all-finished, source-record, entry-sources, core-sources, core-path}
 use Rattle.machine.specs.State.{Core, empty-core}
 use Rattle.machine.specs.Views.{core-of}
 
@@ -127,3 +135,43 @@ load-source e x h s = rw h (ap (λ y. y ∷ []) (sym s))
 -- What is no load has none.
 pub no-source : (e : Entry) → loads (e .instruction) ≡ false → entry-sources e ≡ []
 no-source e h = rw h
+
+-- An entry has at most one source.
+one-source : (e : Entry) → length (entry-sources e) ≤ 1
+one-source e = go (loads (e .instruction))
+  where
+    go : (b : Bool) → length (cond b (source-record (e .mark) (e .value) ∷ []) []) ≤ 1
+    go true = omega arith
+    go false = omega arith
+
+-- There are at most as many sources as entries.
+few-sources : (es : List Entry) → length (joined entry-sources es) ≤ length es
+few-sources [] = omega arith
+few-sources (e ∷ es) = omega (arith, length-append (entry-sources e) (joined entry-sources es), one-source e, few-sources es)
+
+-- A processor has at most sixteen sources.
+sixteen-sources : (p : Processor) → length (core-sources (core-of p)) ≤ 16
+sixteen-sources p =
+    let v = p .entries in
+    omega (arith, few-sources (items v), length-take (v .len) (v .slots), v .fits)
+
+-- Sixteen sources a processor.
+pub all-sources-few : (rows : List Processor) → length (joined core-sources (map core-of rows)) ≤ 16 * length rows
+all-sources-few [] = omega arith
+all-sources-few (p ∷ rows) =
+    omega (arith, length-append (core-sources (core-of p)) (joined core-sources (map core-of rows)), sixteen-sources p, all-sources-few rows)
+
+-- One to four processors have a witness: nothing of their paths and sources is cut off.
+pub whole-witness : (rows : List Processor) (paths : List (Bounded ℕ 16)) (sources : List Source) (order : List Access) → 1 ≤ length rows → length rows ≤ 4 →
+    map items paths ≡ take 4 (map core-path (map core-of rows)) →
+    sources ≡ take 64 (joined core-sources (map core-of rows)) →
+    cond {A = Option Execution} (ltb 0 (length paths)) (Some (record { paths = map items paths; sources = sources; order = order })) None
+    ≡ Some (record { paths = map core-path (map core-of rows); sources = joined core-sources (map core-of rows); order = order })
+whole-witness rows paths sources order l m p s =
+    let cs = map core-of rows in
+    let ps = map core-path cs in
+    let n : length ps ≡ length rows = length-map cs core-path ∙ length-map rows core-of in
+    let all : map items paths ≡ ps = p ∙ take-all 4 ps (omega arith) in
+    let each : sources ≡ joined core-sources cs = s ∙ take-all 64 (joined core-sources cs) (omega (arith, all-sources-few rows)) in
+    let some : ltb 0 (length paths) ≡ true = lt-ltb 0 (length paths) (omega (arith, length-map paths items, ap length all)) in
+    rw some (λ i. Some (record { paths = all i; sources = each i; order = order }))

@@ -1,3 +1,4 @@
 pub mod Orders
 pub mod Cores
 pub mod Closing
+pub mod Answering

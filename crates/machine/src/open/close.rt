@@ -35,7 +35,7 @@ fn witness_of(rows: &[Processor], order: Bounded<Access, 64>) -> Witness
 impl<'q, M: Memory> OpenRun<'q, M> {
     /// Closes the run, finished or not; its memory moves to the closed run.
     pub fn close(self) -> ClosedRun<M>
-        ensures { λ r. ⌜ closed-state (M·Memory .cells) r ≡ closed (run-question self) (open-state (M·Memory .cells) self) ⌝ }
+        ensures { λ r. ⌜ closed-state (M·Memory .cells) r ≡ closed (run-question (self .entry)) (open-state (M·Memory .cells) (self .entry)) ⌝ }
     {
         let OpenRun { question, processors, order, memory } = self;
         let rows = processors.first(question.processors());
