@@ -14,6 +14,7 @@ use Rattle.std.proofs.shelf.Tests.{lt-ltb}
 use Rattle.bounded.specs.Items.{items}
 use Rattle.bounded.specs.declared.vector.Bounded.{Bounded}
 use Rattle.bounded.proofs.Takes.{take-append-take}
+use Rattle.memory.specs.declared.cell.Cell.{Cell}
 use Rattle.question.specs.Kinds.{loads}
 use Rattle.question.specs.declared.instruction.Instruction.{Instruction}
 use Rattle.rules.specs.declared.entry.Entry.{Entry}
@@ -21,7 +22,7 @@ use Rattle.witness.specs.Execution.{Execution}
 use Rattle.witness.specs.declared.record.Access.{Access}
 use Rattle.witness.specs.declared.record.Source.{Source}
 use Rattle.machine.specs.declared.processor.Processor.{Processor}
-use Rattle.machine.specs.Results.{all-done, core-finished, all-finished, source-record, entry-sources, core-sources, core-path}
+use Rattle.machine.specs.Results.{all-done, core-finished, all-finished, source-record, entry-sources, core-sources, core-path, Closed}
 use Rattle.machine.specs.State.{Core, empty-core}
 use Rattle.machine.specs.Views.{core-of}
 
@@ -175,3 +176,8 @@ whole-witness rows paths sources order l m p s =
     let each : sources ≡ joined core-sources cs = s ∙ take-all 64 (joined core-sources cs) (omega (arith, all-sources-few rows)) in
     let some : ltb 0 (length paths) ≡ true = lt-ltb 0 (length paths) (omega (arith, length-map paths items, ap length all)) in
     rw some (λ i. Some (record { paths = all i; sources = each i; order = order }))
+
+-- Closed runs with the same parts are the same.
+pub same-closed : {f h : Bool} {rs ss : List (List ℕ)} {w v : Execution} {m n : List Cell} → f ≡ h → rs ≡ ss → w ≡ v → m ≡ n →
+    _≡_ {A = Closed} (record { finished = f; registers = rs; execution = w; cells = m }) (record { finished = h; registers = ss; execution = v; cells = n })
+same-closed a b c d = λ i. record { finished = a i; registers = b i; execution = c i; cells = d i }
