@@ -14,7 +14,7 @@ use Rattle.std.proofs.shelf.Tests.{false≢true}
 use Rattle.fields.specs.declared.refusal.Refusal.{Refusal}
 use Rattle.fields.specs.Rows.{then}
 use Rattle.fields.proofs.Rows.{then-err}
-use Rattle.question.specs.declared.instruction.Instruction.{Instruction}
+use Rattle.instructions.specs.declared.instruction.Instruction.{Instruction}
 use Rattle.question.specs.Instructions.{instruction-of}
 use Rattle.question.specs.Codes.{code-from}
 use Rattle.question.specs.Means.{Code-refused-for-its-first-fault}

@@ -13,8 +13,8 @@ use Rattle.std.proofs.shelf.Lists.{length-append, length-drop, length-take-le, 
 use Rattle.std.proofs.shelf.Tests.{leb-true, eqb-true, le-leb, eq-eqb, and-from, and-parts}
 use Rattle.fields.specs.Rows.{then}
 use Rattle.fields.proofs.Rows.{then-ok}
-use Rattle.question.specs.declared.instruction.Instruction.{Instruction}
-use Rattle.question.specs.declared.instruction.Instruction.the-variants.{Add, Subtract, Load, Store, Branch, Fence}
+use Rattle.instructions.specs.declared.instruction.Instruction.{Instruction}
+use Rattle.instructions.specs.declared.instruction.Instruction.the-variants.{Add, Subtract, Load, Store, Branch, Fence}
 use Rattle.question.specs.Sound.{instruction-sound, all-sound, code-sound}
 use Rattle.question.specs.Instructions.{instruction-of, instruction-bytes}
 use Rattle.question.specs.Codes.{code-from, code-of, code-fits}

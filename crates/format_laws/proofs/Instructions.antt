@@ -15,8 +15,8 @@ use Rattle.std.proofs.shelf.Tests.{ltb-true, eqb-true, false≢true, and-parts,
 use Rattle.fields.specs.declared.refusal.Refusal.the-variants.{KindOrRegisterNotAllowed, NumberNotAllowed}
 use Rattle.fields.specs.Fields.{word}
 use Rattle.fields.proofs.Relations.{word-joined}
-use Rattle.question.specs.declared.instruction.Instruction.{Instruction}
-use Rattle.question.specs.declared.instruction.Instruction.the-variants.{Add, Subtract, Load, Store, Branch, Fence}
+use Rattle.instructions.specs.declared.instruction.Instruction.{Instruction}
+use Rattle.instructions.specs.declared.instruction.Instruction.the-variants.{Add, Subtract, Load, Store, Branch, Fence}
 use Rattle.question.specs.Sound.{register-sound, operand-sound, instruction-sound}
 use Rattle.question.specs.Table.{row-of}
 use Rattle.question.specs.Instructions.{raw-of, kind-fits, register-fits, registers-fit, numbers-fit, instruction-from, instruction-of, fence-number, instruction-bytes}

@@ -7,8 +7,8 @@ use lib.Dec.{eqb, ltb}
 use Rattle.std.specs.declared.option.Option.{Option}
 use Rattle.std.specs.declared.option.Option.the-variants.{Some, None}
 use Rattle.std.proofs.shelf.Tests.{ltb-true, eqb-true, ne-eqb}
-use Rattle.question.specs.declared.instruction.AccessType.{AccessType}
-use Rattle.question.specs.declared.instruction.AccessType.the-variants as access
+use Rattle.instructions.specs.declared.instruction.AccessType.{AccessType}
+use Rattle.instructions.specs.declared.instruction.AccessType.the-variants as access
 use Rattle.question.specs.Sound.{operand-sound}
 use Rattle.question.specs.Instructions.{register-fits, operand, operand-byte, fence-before, fence-after, fence-number}
 

@@ -14,7 +14,7 @@ use Rattle.fields.specs.declared.refusal.Refusal.the-variants.{TagNotAllowed}
 use Rattle.fields.specs.Fields.{field-bytes}
 use Rattle.fields.specs.Rows.{Reads}
 use Rattle.fields.proofs.Rows.{then-ok}
-use Rattle.question.specs.declared.instruction.Instruction.{Instruction}
+use Rattle.instructions.specs.declared.instruction.Instruction.{Instruction}
 use Rattle.question.specs.Instructions.{instruction-bytes}
 use Rattle.question.specs.Litmus.{Litmus}
 use Rattle.question.specs.Codes.{code-of}

@@ -15,8 +15,8 @@ use Rattle.bounded.specs.Items.{items}
 use Rattle.bounded.specs.declared.vector.Bounded.{Bounded}
 use Rattle.bounded.proofs.Takes.{take-append-take}
 use Rattle.memory.specs.declared.cell.Cell.{Cell}
-use Rattle.question.specs.Kinds.{loads}
-use Rattle.question.specs.declared.instruction.Instruction.{Instruction}
+use Rattle.instructions.specs.Kinds.{loads}
+use Rattle.instructions.specs.declared.instruction.Instruction.{Instruction}
 use Rattle.rules.specs.declared.entry.Entry.{Entry}
 use Rattle.witness.specs.Execution.{Execution}
 use Rattle.witness.specs.declared.record.Access.{Access}

@@ -3,16 +3,18 @@ use mathlib.Core.Path.{_≡_, refl, sym, ap, _∙_}
 use mathlib.Core.List.{List, [], _∷_, map}
 use Prim.Native.Nat.{ℕ, zero, suc, _<_, _≤_}
 use native.Mathlib.Omega.{arith}
-use lib.ListN.{length, getD, set, take}
+use lib.ListN.{length, getD, set, take, replicate}
 use Rattle.std.proofs.shelf.Lists.{length-map, length-take, getD-map, map-set, getD-take}
 use Rattle.bounded.specs.Items.{items}
 use Rattle.question.specs.Views.{instructions-of, litmus-of}
+use Rattle.instructions.specs.declared.instruction.Instruction.{Instruction}
 use Rattle.question.specs.declared.question.Question.{Question}
 use Rattle.machine.specs.declared.processor.Processor.{Processor}
 use Rattle.memory.specs.declared.cell.Cell.{Cell}
 use Rattle.witness.specs.declared.record.Access.{Access}
 use Rattle.machine.specs.State.{Core, State, empty-core}
-use Rattle.machine.specs.Views.{core-of}
+use Rattle.machine.specs.declared.open.OpenRun.{OpenRun}
+use Rattle.machine.specs.Views.{core-of, cores-of, run-question}
 
 -- A processor that was read is the core at its place.
 pub core-read : (xs : List Processor) (p : ℕ) (d : Processor) → p < length xs → core-of (getD xs p d) ≡ getD (map core-of xs) p empty-core
@@ -44,3 +46,15 @@ few-processors q =
 pub same-state : {cs ds : List Core} {o u : List Access} {m n : List Cell} → cs ≡ ds → o ≡ u → m ≡ n →
     _≡_ {A = State} (record { cores = cs; order = o; cells = m }) (record { cores = ds; order = u; cells = n })
 same-state a b c = λ i. record { cores = a i; order = b i; cells = c i }
+
+-- The entries of a processor that was read are those of its core in the state.
+pub entries-read : {M : Type 0} (r : OpenRun M) (p : ℕ) (d : Processor) → p < length (r .processors .rows) → p < length (run-question r .code) →
+    items (getD (r .processors .rows) p d .entries) ≡ getD (cores-of (length (run-question r .code)) (r .processors)) p empty-core .entries
+entries-read r p d l h =
+    ap (λ x. x .entries) (core-read (r .processors .rows) p d l ∙ sym (core-within (length (run-question r .code)) (map core-of (r .processors .rows)) p h))
+
+-- Some of four empty processors, one for each code.
+pub all-empty : (codes : List (List Instruction)) (n : ℕ) → length codes ≤ n → take (length codes) (replicate n empty-core) ≡ map (λ _. empty-core) codes
+all-empty [] n h = refl
+all-empty (c ∷ cs) zero h = absurd (omega arith)
+all-empty (c ∷ cs) (suc n) h = ap (λ xs. empty-core ∷ xs) (all-empty cs n (omega arith))

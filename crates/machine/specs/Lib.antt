@@ -2,3 +2,4 @@ pub mod State
 pub mod Steps
 pub mod Results
 pub mod Views
+pub mod Fires

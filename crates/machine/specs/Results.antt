@@ -17,9 +17,9 @@ use Rattle.memory.specs.Cells.{cell-at}
 use Rattle.memory.specs.declared.cell.Cell.{Cell}
 use Rattle.memory.specs.declared.cell.Mark.{Mark}
 use Rattle.memory.specs.declared.cell.Mark.the-variants as mark
-use Rattle.question.specs.Kinds.{loads}
+use Rattle.instructions.specs.Kinds.{loads}
 use Rattle.question.specs.Litmus.{Litmus}
-use Rattle.question.specs.declared.instruction.Instruction.{Instruction}
+use Rattle.instructions.specs.declared.instruction.Instruction.{Instruction}
 use Rattle.rules.specs.Entries.{at}
 use Rattle.rules.specs.Ready.{writer}
 use Rattle.rules.specs.declared.entry.Entry.{Entry}

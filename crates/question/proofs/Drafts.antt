@@ -10,7 +10,7 @@ use Rattle.std.proofs.shelf.Tests.{lt-ltb}
 use Rattle.fields.specs.declared.refusal.Refusal.{Refusal}
 use Rattle.fields.specs.declared.refusal.Refusal.the-variants.{LengthNotAllowed}
 use Rattle.fields.specs.Rows.{then, tested}
-use Rattle.question.specs.declared.instruction.Instruction.{Instruction}
+use Rattle.instructions.specs.declared.instruction.Instruction.{Instruction}
 use Rattle.question.specs.Codes.{code-of, code-fits}
 use Rattle.question.specs.Read.{Draft, question-format}
 use Rattle.question.specs.Views.{processor-cut}

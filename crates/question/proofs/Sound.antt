@@ -12,8 +12,8 @@ use Rattle.std.specs.declared.result.Result.the-variants.{Ok, Err}
 use Rattle.std.proofs.shelf.Tests.{and-parts, and-from, cases-eq, cases-bool, ne-eqb, eq-eqb}
 use Rattle.fields.specs.declared.refusal.Refusal.{Refusal}
 use Rattle.question.specs.declared.decode.Raw.{Raw}
-use Rattle.question.specs.declared.instruction.Instruction.{Instruction}
-use Rattle.question.specs.declared.instruction.Instruction.the-variants.{Add, Subtract, Load, Store, Branch, Fence}
+use Rattle.instructions.specs.declared.instruction.Instruction.{Instruction}
+use Rattle.instructions.specs.declared.instruction.Instruction.the-variants.{Add, Subtract, Load, Store, Branch, Fence}
 use Rattle.question.specs.Instructions.{register-fits, registers-fit, numbers-fit, kind-fits, operand, instruction-from, checked}
 use Rattle.question.specs.Sound.{register-sound, operand-sound, instruction-sound, all-sound}
 use Rattle.question.specs.Table.{row-of}

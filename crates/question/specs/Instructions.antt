@@ -11,10 +11,10 @@ use Rattle.std.specs.declared.result.Result.the-variants.{Ok, Err}
 use Rattle.fields.specs.declared.refusal.Refusal.{Refusal}
 use Rattle.fields.specs.declared.refusal.Refusal.the-variants.{KindOrRegisterNotAllowed, NumberNotAllowed}
 use Rattle.fields.specs.Fields.{word, word-bytes}
-use Rattle.question.specs.declared.instruction.AccessType.{AccessType}
-use Rattle.question.specs.declared.instruction.AccessType.the-variants as access
-use Rattle.question.specs.declared.instruction.Instruction.{Instruction}
-use Rattle.question.specs.declared.instruction.Instruction.the-variants.{Add, Subtract, Load, Store, Branch, Fence}
+use Rattle.instructions.specs.declared.instruction.AccessType.{AccessType}
+use Rattle.instructions.specs.declared.instruction.AccessType.the-variants as access
+use Rattle.instructions.specs.declared.instruction.Instruction.{Instruction}
+use Rattle.instructions.specs.declared.instruction.Instruction.the-variants.{Add, Subtract, Load, Store, Branch, Fence}
 use Rattle.question.specs.declared.decode.Raw.{Raw}
 use Rattle.question.specs.declared.table.Row.{Row}
 use Rattle.question.specs.Table.{row-of}

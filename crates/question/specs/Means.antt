@@ -11,7 +11,7 @@ use Rattle.std.specs.declared.result.Result.the-variants.{Ok, Err}
 use Rattle.fields.specs.declared.refusal.Refusal.{Refusal}
 use Rattle.fields.specs.declared.refusal.Refusal.the-variants.{CellAddressNotAllowed}
 use Rattle.fields.specs.Fields.{word-bytes, field-bytes}
-use Rattle.question.specs.declared.instruction.Instruction.{Instruction}
+use Rattle.instructions.specs.declared.instruction.Instruction.{Instruction}
 use Rattle.question.specs.Litmus.{Litmus}
 use Rattle.question.specs.Sound.{code-sound}
 use Rattle.question.specs.Instructions.{instruction-of, instruction-bytes}

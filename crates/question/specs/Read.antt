@@ -10,7 +10,7 @@ use Rattle.fields.specs.declared.refusal.Refusal.{Refusal}
 use Rattle.fields.specs.declared.refusal.Refusal.the-variants.{TagNotAllowed}
 use Rattle.fields.specs.Fields.{Cut}
 use Rattle.fields.specs.Rows.{Format, then, read-row}
-use Rattle.question.specs.declared.instruction.Instruction.{Instruction}
+use Rattle.instructions.specs.declared.instruction.Instruction.{Instruction}
 use Rattle.question.specs.Litmus.{Litmus}
 use Rattle.question.specs.Cells.{zeros, cells-from, cells-fit}
 use Rattle.question.specs.Codes.{code-of, code-fits}

@@ -6,8 +6,8 @@ use lib.Dec.{ltb, leb}
 use lib.ListN.{length}
 use Rattle.std.specs.declared.option.Option.{Option}
 use Rattle.std.specs.declared.option.Option.the-variants.{Some, None}
-use Rattle.question.specs.declared.instruction.Instruction.{Instruction}
-use Rattle.question.specs.declared.instruction.Instruction.the-variants.{Add, Subtract, Load, Store, Branch, Fence}
+use Rattle.instructions.specs.declared.instruction.Instruction.{Instruction}
+use Rattle.instructions.specs.declared.instruction.Instruction.the-variants.{Add, Subtract, Load, Store, Branch, Fence}
 
 -- A register is 0 to 7.
 abbrev pub register-sound : ℕ → Bool

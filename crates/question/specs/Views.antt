@@ -9,7 +9,7 @@ use Rattle.fields.specs.declared.refusal.Refusal.{Refusal}
 use Rattle.fields.specs.Fields.{Cut}
 use Rattle.question.specs.declared.code.Code.{Code}
 use Rattle.question.specs.declared.draft.Draft.{Draft as Held}
-use Rattle.question.specs.declared.instruction.Instruction.{Instruction}
+use Rattle.instructions.specs.declared.instruction.Instruction.{Instruction}
 use Rattle.question.specs.declared.question.Question.{Question}
 use Rattle.question.specs.declared.field.Field.{Field}
 use Rattle.question.specs.declared.field.Field.the-variants.{Cells, Processor}

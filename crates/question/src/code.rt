@@ -4,8 +4,8 @@ ghost use mathlib.Core.Bool.{true};
 ghost use lib.ListN.{length};
 ghost use Rattle.bounded.specs.Items.{items};
 ghost use Rattle.question.specs.Sound.{code-sound};
-use super::instruction::Instruction;
 use bounded::vector::Bounded;
+use instructions::instruction::Instruction;
 
 pub mod methods;
 

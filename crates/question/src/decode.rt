@@ -1,11 +1,11 @@
 // One instruction from its eight bytes.
 ghost use mathlib.Core.Path.{_≡_};
 ghost use Rattle.question.specs.Instructions.{checked, raw-of, register-fits, registers-fit, numbers-fit, operand, instruction-from};
-use super::instruction::AccessType;
-use super::instruction::Instruction;
 use super::table::ROWS;
 use super::table::Row;
 use fields::refusal::Refusal;
+use instructions::instruction::AccessType;
+use instructions::instruction::Instruction;
 
 /// The six fields of an instruction, as its eight bytes state them.
 #[derive(Clone, Copy)]

@@ -3,7 +3,6 @@ pub mod code;
 pub mod decode;
 pub mod draft;
 pub mod field;
-pub mod instruction;
 pub mod question;
 pub mod read;
 pub mod table;

@@ -9,9 +9,9 @@ use Rattle.std.specs.declared.result.Result.the-variants.{Ok, Err}
 use Rattle.fields.specs.declared.refusal.Refusal.{Refusal}
 use Rattle.fields.specs.declared.refusal.Refusal.the-variants.{FetchAtEnd, BufferFull, PositionOrGuessNotAllowed, KindDoesNotSuitRule, StepAlreadyMade}
 use Rattle.fields.specs.Rows.{then}
-use Rattle.question.specs.Effects.{guessed-place}
-use Rattle.question.specs.Kinds.{branches}
-use Rattle.question.specs.declared.instruction.Instruction.{Instruction}
+use Rattle.instructions.specs.Effects.{guessed-place}
+use Rattle.instructions.specs.Kinds.{branches}
+use Rattle.instructions.specs.declared.instruction.Instruction.{Instruction}
 use Rattle.rules.specs.declared.change.Action.{Action}
 use Rattle.rules.specs.declared.change.Action.the-variants.{Make}
 use Rattle.rules.specs.declared.change.Change.{Change}

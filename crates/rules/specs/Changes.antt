@@ -14,8 +14,8 @@ use Rattle.fields.specs.declared.refusal.Refusal.the-variants.{OperandWanting, 
 use Rattle.fields.specs.Rows.{then}
 use Rattle.memory.specs.declared.cell.Mark.{Mark}
 use Rattle.memory.specs.declared.cell.Mark.the-variants as mark
-use Rattle.question.specs.Effects.{result, address-sum, data-sum, next-place}
-use Rattle.question.specs.Kinds.{loads, stores, first-operand, second-operand}
+use Rattle.instructions.specs.Effects.{result, address-sum, data-sum, next-place}
+use Rattle.instructions.specs.Kinds.{loads, stores, first-operand, second-operand}
 use Rattle.search.specs.Search.{nearest, first, passes}
 use Rattle.rules.specs.declared.change.Action.{Action}
 use Rattle.rules.specs.declared.change.Action.the-variants.{Make, Read}

@@ -7,8 +7,8 @@ use Rattle.std.specs.declared.option.Option.{Option}
 use Rattle.std.specs.declared.option.Option.the-variants.{Some, None}
 use Rattle.memory.specs.declared.cell.Mark.{Mark}
 use Rattle.memory.specs.declared.cell.Mark.the-variants.{Start}
-use Rattle.question.specs.declared.instruction.Instruction.{Instruction}
-use Rattle.question.specs.declared.instruction.Instruction.the-variants.{Add}
+use Rattle.instructions.specs.declared.instruction.Instruction.{Instruction}
+use Rattle.instructions.specs.declared.instruction.Instruction.the-variants.{Add}
 use Rattle.rules.specs.declared.entry.Entry.{Entry}
 
 -- An entry as it is fetched: nothing is known of it but its next place as guessed.

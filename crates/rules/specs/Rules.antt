@@ -5,8 +5,8 @@ use lib.Dec.{eqb}
 use Rattle.std.specs.Options.{isSome}
 use Rattle.std.specs.declared.option.Option.{Option}
 use Rattle.std.specs.declared.option.Option.the-variants.{Some, None}
-use Rattle.question.specs.Kinds.{loads, stores, access, computes, branches, fences}
-use Rattle.question.specs.declared.instruction.Instruction.{Instruction}
+use Rattle.instructions.specs.Kinds.{loads, stores, access, computes, branches, fences}
+use Rattle.instructions.specs.declared.instruction.Instruction.{Instruction}
 use Rattle.rules.specs.declared.entry.Entry.{Entry}
 use Rattle.rules.specs.declared.rule.Rule.{Rule}
 use Rattle.rules.specs.declared.rule.Rule.the-variants as rule

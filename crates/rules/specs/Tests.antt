@@ -5,9 +5,9 @@ use lib.Dec.{eqb}
 use Rattle.std.specs.Options.{isSome}
 use Rattle.std.specs.declared.option.Option.{Option}
 use Rattle.std.specs.declared.option.Option.the-variants.{Some, None}
-use Rattle.question.specs.Kinds.{loads, stores, access, branches, fence-from, fence-to}
-use Rattle.question.specs.declared.instruction.AccessType.the-variants as access-type
-use Rattle.question.specs.declared.instruction.Instruction.{Instruction}
+use Rattle.instructions.specs.Kinds.{loads, stores, access, branches, fence-from, fence-to}
+use Rattle.instructions.specs.declared.instruction.AccessType.the-variants as access-type
+use Rattle.instructions.specs.declared.instruction.Instruction.{Instruction}
 use Rattle.rules.specs.declared.entry.Entry.{Entry}
 
 -- The cell that an address sum means.

@@ -1,6 +1,6 @@
 // An entry of a processor's buffer.
+use instructions::instruction::Instruction;
 use memory::cell::Mark;
-use question::instruction::Instruction;
 
 /// An instruction that was fetched, with what is known of it so far.
 #[derive(Clone, Copy)]

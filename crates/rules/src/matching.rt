@@ -4,8 +4,8 @@ ghost use Rattle.rules.specs.Ready.{writes-register};
 ghost use Rattle.rules.specs.Tests.{open-for-fence, open-fence-to-load, open-to-cell, holds-store, to-cell, same-cell};
 ghost use mathlib.Core.Path.{_≡_};
 use super::entry::Entry;
-use question::instruction::AccessType;
-use question::instruction::Instruction;
+use instructions::instruction::AccessType;
+use instructions::instruction::Instruction;
 use search::Matches;
 
 /// Entries that write a register.

@@ -1,10 +1,12 @@
 // Starting, stepping and closing a run.
 ghost use mathlib.Core.Path.{_≡_};
+ghost use mathlib.Core.List.{map};
 ghost use Prim.Native.Nat.{_<_};
 ghost use lib.ListN.{length};
 ghost use Rattle.rules.specs.Act.{act, fetch};
 ghost use Rattle.question.specs.Litmus.{code-at};
-ghost use Rattle.machine.specs.State.{started, core-at};
+ghost use Rattle.question.specs.Views.{litmus-of};
+ghost use Rattle.machine.specs.State.{started, start-cell, core-at};
 ghost use Rattle.machine.specs.Steps.{answer, after, step-outcome, fetch-outcome, act-outcome, changed, removed, cells-after};
 ghost use Rattle.machine.specs.Views.{open-state, run-question};
 use super::super::order::after_step;
@@ -36,7 +38,61 @@ fn write_cell<M: Memory>(memory: &mut M, processor: u8, effect: Effect)
     }
 }
 
+/// Writes the start values to the cells from address 0 on, for processor 0 and with the start's mark.
+fn write_start<M: Memory>(memory: &mut M, start: &[u16])
+    requires { ⌜ length (now start) ≡ 16 ⌝ }
+    ensures { λ _. ⌜ M·Memory .cells (now (memory .exit)) ≡ map start-cell (now (start .entry)) ⌝ }
+{
+    for address in 0..16u16 {
+        memory.write(
+            0,
+            address,
+            Cell {
+                value: start[address as usize],
+                mark: Mark::Start,
+            },
+        );
+    }
+}
+
 impl<'q, M: Memory> OpenRun<'q, M> {
+    /// Starts a run of a question over a memory, whatever its cells hold.
+    pub fn start(question: &'q Question, memory: M) -> OpenRun<'q, M>
+        ensures question { λ r. ⌜ run-question r ≡ litmus-of (now (question .entry)) ⌝ }
+        ensures state { λ r. ⌜ open-state (M·Memory .cells) r ≡ started (litmus-of (now (question .entry))) ⌝ }
+    {
+        let mut memory = memory;
+        write_start(&mut memory, question.start());
+        let order = Bounded::new(Access {
+            processor: 0,
+            position: 0,
+        });
+        OpenRun {
+            question,
+            processors: Processors::new(),
+            order,
+            memory,
+        }
+    }
+
+    /// Carries out one step and answers how many entries it removed, or refuses it and changes nothing.
+    pub fn step(&mut self, step: Step) -> Result<u8, Refusal>
+        ensures value { λ r. ⌜ r ≡ answer (step-outcome (run-question (now (self .entry))) (open-state (M·Memory .cells) (now (self .entry))) step) ⌝ }
+        ensures state { λ _. ⌜ open-state (M·Memory .cells) (now (self .exit)) ≡ after (open-state (M·Memory .cells) (now (self .entry))) (step-outcome (run-question (now (self .entry))) (open-state (M·Memory .cells) (now (self .entry))) step) ⌝ }
+        ensures question { λ _. ⌜ now (self .exit) .question ≡ now (self .entry) .question ⌝ }
+    {
+        let Some(rule) = Rule::numbered(step.rule) else {
+            return Err(Refusal::RuleOrProcessorAbsent);
+        };
+        if step.processor as usize >= self.question.processors() {
+            return Err(Refusal::RuleOrProcessorAbsent);
+        }
+        match rule {
+            Rule::Fetch => self.fetch(step.processor, step.position, step.guess),
+            _ => self.act(rule, step.processor, step.position, step.guess),
+        }
+    }
+
     /// Makes a change of the entry at a position of a processor, and answers how many entries it removed.
     fn make(&mut self, processor: u8, position: u8, change: Change) -> u8
         requires { ⌜ processor < length (run-question (now self) .code) ⌝ }

@@ -10,8 +10,8 @@ ghost use Rattle.machine.specs.Views.{core-of};
 use super::Processor;
 use super::Processors;
 use bounded::vector::Bounded;
+use instructions::instruction::Instruction;
 use memory::cell::Mark;
-use question::instruction::Instruction;
 use rules::change::Change;
 use rules::entry::Entry;
 

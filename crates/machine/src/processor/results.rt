@@ -1,7 +1,6 @@
 // What a processor's buffer gives once its run is closed.
 ghost use mathlib.Core.Path.{_≡_};
 ghost use mathlib.Core.List.{_++_, map};
-ghost use Prim.Native.Nat.{_≤_};
 ghost use lib.ListN.{take};
 ghost use Rattle.std.specs.shelf.Lists.{joined};
 ghost use Rattle.bounded.specs.Items.{items};
@@ -12,8 +11,8 @@ use super::super::registers::Registers;
 use super::Processor;
 use super::Processors;
 use bounded::vector::Bounded;
+use instructions::instruction::Instruction;
 use memory::cell::Mark;
-use question::instruction::Instruction;
 use question::question::Question;
 use rules::entry::Entry;
 use rules::matching::EntryWritesRegister;
@@ -53,7 +52,10 @@ fn source_record(mark: Mark, value: u16) -> Source
             position: 255,
             value,
         },
-        Mark::Store { processor, position } => Source {
+        Mark::Store {
+            processor,
+            position,
+        } => Source {
             processor,
             position,
             value,
@@ -105,13 +107,12 @@ impl Processor {
 }
 
 impl Processors {
-    /// The first processors.
+    /// The first processors, as many as there are.
     pub fn first(&self, count: usize) -> &[Processor]
-        requires { ⌜ count ≤ 4 ⌝ }
         ensures { λ r. ⌜ now r ≡ take count (now (self .entry) .rows) ⌝ }
     {
         let all = &self.rows[..];
-        &all[0..count]
+        if count < 4 { &all[0..count] } else { all }
     }
 }
 
@@ -156,13 +157,11 @@ pub fn all_paths(rows: &[Processor]) -> Bounded<Bounded<u8, 16>, 4>
 pub fn all_sources(rows: &[Processor]) -> Bounded<Source, 64>
     ensures { λ r. ⌜ items r ≡ take 64 (joined core-sources (map core-of (now (rows .entry)))) ⌝ }
 {
-    let mut all = Bounded::new(
-        Source {
-            processor: 0,
-            position: 0,
-            value: 0,
-        },
-    );
+    let mut all = Bounded::new(Source {
+        processor: 0,
+        position: 0,
+        value: 0,
+    });
     for row in rows {
         row.add_sources(&mut all);
     }

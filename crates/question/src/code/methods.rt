@@ -2,10 +2,10 @@
 ghost use mathlib.Core.Path.{_≡_};
 ghost use mathlib.Core.List.{[]};
 ghost use Rattle.question.specs.Views.{instructions-of};
-use super::super::instruction::AccessType;
-use super::super::instruction::Instruction;
 use super::Code;
 use bounded::vector::Bounded;
+use instructions::instruction::AccessType;
+use instructions::instruction::Instruction;
 
 /// What fills the slots that are not in use.
 const BLANK: Instruction = Instruction::Fence {

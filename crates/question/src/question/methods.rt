@@ -8,9 +8,9 @@ ghost use Rattle.question.specs.Litmus.{code-at};
 ghost use Rattle.question.specs.Read.{question-of};
 ghost use Rattle.question.specs.Views.{litmus-of};
 use super::super::code::Code;
-use super::super::instruction::Instruction;
 use super::Question;
 use bounded::vector::Bounded;
+use instructions::instruction::Instruction;
 
 impl Question {
     /// One processor without instructions, all cells 0: the question 50 00 00.

@@ -1,5 +1,5 @@
 use native.Mathlib.Omega.{arith}
-use mathlib.Core.Path.{_≡_, refl, sym, ap, _∙_}
+use mathlib.Core.Path.{_≡_, sym, ap, _∙_}
 use mathlib.Core.List.{List, map}
 use Prim.Native.Nat.{_≤_}
 use denote.Ref.{now}
@@ -16,11 +16,8 @@ use Rattle.machine.proofs.Cores.{few-processors}
 use Rattle.machine.proofs.Closing.{same-closed}
 use Rattle.machine.proofs.open.OpenRun.close.Needs as need
 
-pub first-rows-requires : need.first-rows-requires
-first-rows-requires g c κs = omega (arith, few-processors (now (c .args .self .question)), c .processors .ensures)
-
-pub witness-of-requires : need.witness-of-requires
-witness-of-requires g c κs =
+pub gathered-requires : need.gathered-requires
+gathered-requires g c κs =
     let q = now (c .args .self .question) in
     let n = c .processors .result in
     let ps = items (q .processors) in
@@ -42,7 +39,7 @@ returns g c =
     let few : length cs ≤ 4 = omega (arith, few-processors q, length-take n (map core-of (s .processors .rows))) in
     let witness : List Core → Execution = λ xs. record { paths = map core-path xs; sources = joined core-sources xs; order = items (s .order) } in
     same-closed
-    (c .all-finished .ensures ∙ ap (all-finished (run-question s .code)) same)
-    (c .all-registers .ensures ∙ ap (λ xs. take 4 (map registers-of xs)) same ∙ take-all 4 (map registers-of cs) (omega (arith, length-map cs registers-of)))
-    (c .witness-of .ensures ∙ ap witness same)
-    refl
+    (c .gathered .ensures .finished ∙ ap (all-finished (run-question s .code)) same)
+    (c .gathered .ensures .registers ∙ ap (λ xs. take 4 (map registers-of xs)) same ∙ take-all 4 (map registers-of cs) (omega (arith, length-map cs registers-of)))
+    (c .gathered .ensures .execution ∙ ap witness same)
+    (ap (g .M·Memory .cells) (c .gathered .ensures .memory))

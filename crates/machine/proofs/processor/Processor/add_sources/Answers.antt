@@ -1,12 +1,12 @@
 use native.Mathlib.Omega.{arith}
 use mathlib.Core.Path.{_≡_, sym, ap, _∙_}
+use mathlib.Core.List.{_++_}
 use Prim.Native.Nat.{_<_}
 use lib.ListN.{length, getD, take}
+use Rattle.std.specs.shelf.Lists.{joined}
 use Rattle.std.proofs.shelf.Lists.{append-nil, length-take, take-all}
 use Rattle.bounded.specs.Items.{items}
 use Rattle.rules.specs.Entries.{blank}
-use Rattle.std.specs.shelf.Lists.{joined}
-use mathlib.Core.List.{_++_}
 use Rattle.machine.specs.Results.{entry-sources}
 use Rattle.machine.proofs.Closing.{sources-add, sources-skip, load-source, no-source}
 use Rattle.machine.proofs.processor.Processor.add_sources.Needs as need

@@ -1,7 +1,7 @@
 use native.Mathlib.Omega.{arith}
-use mathlib.Core.Path.{_≡_, sym, ap, _∙_}
+use mathlib.Core.Path.{ap, _∙_}
 use mathlib.Core.List.{[], _∷_, _++_, map}
-use Prim.Native.Nat.{_<_}
+use Prim.Native.Nat.{ℕ, _<_}
 use lib.ListN.{length, getD, take}
 use Rattle.std.proofs.shelf.Lists.{length-map, length-take, take-all}
 use Rattle.rules.specs.Entries.{blank}
@@ -14,7 +14,7 @@ pub loop-entry-again : need.loop-entry-again
 loop-entry-again c =
     let xs = items (c .args .self .now .entries) in
     let i = c .loop-entry .entry-index in
-    let place : Entry → Prim.Native.Nat.ℕ = λ e. e .place in
+    let place : Entry → ℕ = λ e. e .place in
     let e = c .as-slice-entry-items .ensures in
     let l : i < length xs = rw e at (c .loop-entry-test .taken) in
     c .push .ensures .items
@@ -26,7 +26,7 @@ pub returns : need.returns
 returns c =
     let v = c .args .self .now .entries in
     let xs = items v in
-    let place : Entry → Prim.Native.Nat.ℕ = λ e. e .place in
+    let place : Entry → ℕ = λ e. e .place in
     c .loop-entry .inv
     ∙ ap (λ t. take 16 (map place t)) (take-all (c .loop-entry .entry-index) xs (omega (arith, ap length (c .as-slice-entry-items .ensures), c .loop-entry-test .left)))
     ∙ take-all 16 (map place xs) (omega (arith, length-map xs place, length-take (v .len) (v .slots), v .fits))

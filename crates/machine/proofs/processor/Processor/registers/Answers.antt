@@ -1,7 +1,6 @@
 use native.Mathlib.Omega.{arith}
 use mathlib.Core.Path.{_≡_, sym, ap, _∙_}
 use mathlib.Core.List.{[], _∷_, _++_, map}
-use lib.ListN.{length, take}
 use Rattle.std.specs.Iters.{counting}
 use Rattle.std.proofs.shelf.Lists.{length-set, take-more-set, take-all}
 use Rattle.std.proofs.shelf.Counted.{map-counting-more}
@@ -18,9 +17,9 @@ loop-r-again c =
     let e : v ≡ f r = c .register-value .ensures ∙ ap (λ es. register-value es r) (c .as-slice-entries .ensures) in (
       length-set vs r v ∙ c .loop-r .inv .0,
       take-more-set vs r v (omega arith)
-      ∙ ap (λ ys. ys ++ v ∷ []) (c .loop-r .inv .1)
-      ∙ ap (λ y. map f (counting 0 r) ++ y ∷ []) e
-      ∙ sym (map-counting-more f 0 r r (omega arith)),
+          ∙ ap (λ ys. ys ++ v ∷ []) (c .loop-r .inv .1)
+          ∙ ap (λ y. map f (counting 0 r) ++ y ∷ []) e
+          ∙ sym (map-counting-more f 0 r r (omega arith)),
     )
 
 pub returns : need.returns

@@ -1,4 +1,3 @@
-use native.Mathlib.Omega.{arith}
 use Rattle.machine.proofs.Closing.{done-stops, done-goes-on, done-all}
 use Rattle.machine.proofs.processor.results.all_done.Needs as need
 

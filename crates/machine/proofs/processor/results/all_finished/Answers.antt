@@ -1,8 +1,7 @@
 use native.Mathlib.Omega.{arith}
 use mathlib.Core.Path.{_≡_, sym, ap, _∙_}
 use mathlib.Core.List.{[], map}
-use Prim.Native.Nat.{_<_}
-use lib.ListN.{length, getD}
+use lib.ListN.{getD}
 use Rattle.std.proofs.shelf.Lists.{length-map, getD-map}
 use Rattle.question.specs.Views.{litmus-of}
 use Rattle.machine.specs.Results.{core-finished}

@@ -1,9 +1,8 @@
-use mathlib.Core.Path.{_≡_, ap, _∙_}
+use mathlib.Core.Path.{ap, _∙_}
 use mathlib.Core.List.{map, _++_}
 use lib.ListN.{take}
 use Rattle.std.specs.shelf.Lists.{joined}
 use Rattle.std.proofs.shelf.Lists.{take-all}
-use Rattle.bounded.specs.Items.{items}
 use Rattle.machine.specs.Results.{core-sources}
 use Rattle.machine.specs.Views.{core-of}
 use Rattle.machine.proofs.Closing.{core-sources-next}

@@ -16,4 +16,4 @@ returns c =
     let one : map instructions-of (items (c .push .last .self)) ≡ [] ∷ [] =
     ap (map instructions-of) (c .push .ensures .items ∙ ap (λ xs. take 4 (xs ++ c .empty-2 .result ∷ [])) (c .new-processors .ensures))
     ∙ ap (λ xs. xs ∷ []) (c .empty-2 .ensures) in
-    ap (λ (xs : Rattle.std.specs.shelf.Lists.List (Rattle.std.specs.shelf.Lists.List Rattle.question.specs.declared.instruction.Instruction.Instruction)). Ok (record { start = zeros; code = xs })) (sym one)
+    ap (λ (xs : Rattle.std.specs.shelf.Lists.List (Rattle.std.specs.shelf.Lists.List Rattle.instructions.specs.declared.instruction.Instruction.Instruction)). Ok (record { start = zeros; code = xs })) (sym one)

@@ -1,6 +1,6 @@
 // What an instruction computes from the values of its operands.
 ghost use mathlib.Core.Path.{_≡_};
-ghost use Rattle.question.specs.Effects.{result, address-sum, data-sum, next-place, guessed-place};
+ghost use Rattle.instructions.specs.Effects.{result, address-sum, data-sum, next-place, guessed-place};
 use super::Instruction;
 
 impl Instruction {

@@ -1,6 +1,6 @@
 // What an instruction does.
 ghost use mathlib.Core.Path.{_≡_};
-ghost use Rattle.question.specs.Kinds.{loads, stores, access, computes, branches, fences, of-type, fence-from, fence-to, first-operand, second-operand, writes};
+ghost use Rattle.instructions.specs.Kinds.{loads, stores, access, computes, branches, fences, of-type, fence-from, fence-to, first-operand, second-operand, writes};
 use super::AccessType;
 use super::Instruction;
 

@@ -4,10 +4,10 @@ use Prim.Native.Nat.{ℕ}
 use lib.Dec.{eqb}
 use Rattle.std.specs.declared.option.Option.{Option}
 use Rattle.std.specs.declared.option.Option.the-variants.{Some, None}
-use Rattle.question.specs.declared.instruction.AccessType.{AccessType}
-use Rattle.question.specs.declared.instruction.AccessType.the-variants as access-type
-use Rattle.question.specs.declared.instruction.Instruction.{Instruction}
-use Rattle.question.specs.declared.instruction.Instruction.the-variants.{Add, Subtract, Load, Store, Branch, Fence}
+use Rattle.instructions.specs.declared.instruction.AccessType.{AccessType}
+use Rattle.instructions.specs.declared.instruction.AccessType.the-variants as access-type
+use Rattle.instructions.specs.declared.instruction.Instruction.{Instruction}
+use Rattle.instructions.specs.declared.instruction.Instruction.the-variants.{Add, Subtract, Load, Store, Branch, Fence}
 
 -- It reads a cell.
 abbrev pub loads : Instruction → Bool

@@ -2,8 +2,8 @@
 use mathlib.Core.Bool.{Bool, true, false, cond}
 use Prim.Native.Nat.{ℕ, _+_, _-_, _%_}
 use lib.Dec.{eqb}
-use Rattle.question.specs.declared.instruction.Instruction.{Instruction}
-use Rattle.question.specs.declared.instruction.Instruction.the-variants.{Add, Subtract, Load, Store, Branch, Fence}
+use Rattle.instructions.specs.declared.instruction.Instruction.{Instruction}
+use Rattle.instructions.specs.declared.instruction.Instruction.the-variants.{Add, Subtract, Load, Store, Branch, Fence}
 
 -- The result of an addition or a subtraction, modulo 65,536.
 abbrev pub result : Instruction → ℕ → ℕ → ℕ

@@ -1,0 +1,2 @@
+// Instructions: what they do and what they compute.
+pub mod instruction;

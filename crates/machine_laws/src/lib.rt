@@ -1,0 +1,2 @@
+// Laws of the machine: each function carries theorems in its contract.
+pub mod worked;
