@@ -1,4 +1,6 @@
 pub mod Orders
 pub mod Cores
+pub mod Closing
+pub mod Answering
 pub mod Outcomes
 pub mod StartCells

@@ -12,6 +12,7 @@ use Rattle.machine.specs.declared.closed.ClosedRun.{ClosedRun}
 use Rattle.machine.specs.declared.open.OpenRun.{OpenRun}
 use Rattle.machine.specs.declared.processor.Processor.{Processor}
 use Rattle.machine.specs.declared.processor.Processors.{Processors}
+use Rattle.machine.specs.declared.registers.Registers.{Registers}
 use Rattle.machine.specs.Results.{Closed}
 use Rattle.machine.specs.State.{Core, State}
 
@@ -22,6 +23,10 @@ core-of p = record { counter = p .counter; entries = items (p .entries) }
 -- The first n processors.
 abbrev pub cores-of : ℕ → Processors → List Core
 cores-of n ps = take n (map core-of (ps .rows))
+
+-- The registers of one processor.
+abbrev pub row-values : Registers → List ℕ
+row-values r = r .values
 
 -- The litmus test that an open run runs.
 abbrev pub run-question : {M : Type 0} → OpenRun M → Litmus
@@ -40,7 +45,7 @@ module _ {M : Type 0} (cells : M → List Cell) where
   abbrev pub closed-state : ClosedRun M → Closed
   closed-state r = record {
     finished = r .finished;
-    registers = take (r .processors) (r .registers);
+    registers = map row-values (items (r .registers));
     execution = execution-of (r .witness);
     cells = cells (r .memory);
   }

@@ -3,4 +3,5 @@ pub mod closed;
 pub mod open;
 pub mod order;
 pub mod processor;
+pub mod registers;
 pub mod step;

@@ -5,6 +5,7 @@ use memory::memory::Memory;
 use question::question::Question;
 use witness::record::Access;
 
+pub mod close;
 pub mod methods;
 
 /// An open run: its processors, the memory order so far, and its memory.

@@ -5,6 +5,7 @@ use bounded::vector::Bounded;
 use rules::entry::Entry;
 
 pub mod methods;
+pub mod results;
 
 /// A processor: the place that it fetches from next, and its buffer, oldest entry first.
 #[derive(Copy)]

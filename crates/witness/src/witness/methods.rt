@@ -1,7 +1,12 @@
 // What a witness tells of itself.
 ghost use mathlib.Core.Path.{_≡_};
-ghost use mathlib.Core.List.{[], _∷_};
+ghost use mathlib.Core.Bool.{Bool, cond};
+ghost use mathlib.Core.List.{[], _∷_, map};
+ghost use lib.Dec.{ltb};
 ghost use lib.ListN.{length, getD};
+ghost use Rattle.std.specs.Options.{mapped};
+ghost use Rattle.std.specs.declared.option.Option.the-variants.{Some, None};
+ghost use Rattle.bounded.specs.Items.{items};
 ghost use Rattle.witness.specs.Views.{execution-of};
 use super::super::record::Access;
 use super::super::record::NO_ACCESS;
@@ -22,6 +27,24 @@ impl Witness {
             sources: Bounded::new(NO_SOURCE),
             order: Bounded::new(NO_ACCESS),
         }
+    }
+
+    /// The witness with these paths, sources and accesses; nothing where there is no path.
+    pub fn from_parts(
+        paths: Bounded<Bounded<u8, 16>, 4>,
+        sources: Bounded<Source, 64>,
+        order: Bounded<Access, 64>,
+    ) -> Option<Witness>
+        ensures { λ r. ⌜ mapped execution-of r ≡ cond (ltb 0 (length (items paths))) (Some (record { paths = map items (items paths); sources = items sources; order = items order })) None ⌝ }
+    {
+        if paths.len() == 0 {
+            return None;
+        }
+        Some(Witness {
+            paths,
+            sources,
+            order,
+        })
     }
 
     /// How many processors the witness has a path for.
