@@ -64,6 +64,15 @@ impl<T: Copy, const N: usize> Bounded<T, N> {
         true
     }
 
+    /// Adds the elements at the end, as many as there is room for.
+    pub fn extend(&mut self, xs: &[T])
+        ensures { λ _. ⌜ items (now (self .exit)) ≡ take N (items (now (self .entry)) ++ now (xs .entry)) ⌝ }
+    {
+        for x in xs {
+            self.push(*x);
+        }
+    }
+
     /// Keeps the first `keep` elements.
     pub fn truncate(&mut self, keep: usize)
         ensures { λ _. ⌜ items (now (self .exit)) ≡ take keep (items (now (self .entry))) ⌝ }

@@ -9,11 +9,43 @@ use super::Witness;
 use bounded::vector::Bounded;
 
 impl Witness {
+    /// A witness with one empty path, no sources and no accesses.
+    pub fn new() -> Witness
+        ensures { λ r. ⌜ execution-of r ≡ record { paths = [] ∷ []; sources = []; order = [] } ⌝ }
+    {
+        let mut paths = Bounded::new(Bounded::new(0));
+        paths.push(Bounded::new(0));
+        Witness {
+            paths,
+            sources: Bounded::new(Source {
+                processor: 0,
+                position: 0,
+                value: 0,
+            }),
+            order: Bounded::new(Access {
+                processor: 0,
+                position: 0,
+            }),
+        }
+    }
+
     /// How many processors the witness has a path for.
     pub fn processors(&self) -> usize
         ensures { λ r. ⌜ r ≡ length (execution-of (now (self .entry)) .paths) ⌝ }
     {
         self.paths.len()
+    }
+
+    /// The places that a processor ran; none past the last processor.
+    pub fn path(&self, processor: usize) -> &[u8]
+        ensures { λ r. ⌜ now r ≡ getD (execution-of (now (self .entry)) .paths) processor [] ⌝ }
+    {
+        let all = self.paths.as_slice();
+        if processor < all.len() {
+            all[processor].as_slice()
+        } else {
+            &[]
+        }
     }
 
     /// The sources of the loads, by processor then position.
