@@ -1,0 +1,3 @@
+// Readable texts of refusals, instructions, questions and witnesses.
+pub mod instruction;
+pub mod refusal;
