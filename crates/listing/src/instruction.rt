@@ -49,14 +49,42 @@ pub impl fmt::Display for InstructionText as InstructionTextDisplay {
         match self.0 {
             Instruction::Add { d, s1, s2: None, k } => write!(f, "add r{d} = {}", Sum(s1, k)),
             Instruction::Add { d, s1: None, s2, k } => write!(f, "add r{d} = {}", Sum(s2, k)),
-            Instruction::Add { d, s1: Some(r), s2, k } => write!(f, "add r{d} = r{r} + {}", Sum(s2, k)),
-            Instruction::Subtract { d, s1, s2: None, k } => write!(f, "subtract r{d} = {}", Sum(s1, k)),
-            Instruction::Subtract { d, s1: None, s2, k } => write!(f, "subtract r{d} = 0 - {}", Sum(s2, k)),
-            Instruction::Subtract { d, s1: Some(r), s2, k } => write!(f, "subtract r{d} = r{r} - {}", Sum(s2, k)),
+            Instruction::Add {
+                d,
+                s1: Some(r),
+                s2,
+                k,
+            } => write!(f, "add r{d} = r{r} + {}", Sum(s2, k)),
+            Instruction::Subtract { d, s1, s2: None, k } => write!(
+                f,
+                "subtract r{d} = {}",
+                Sum(s1, k)
+            ),
+            Instruction::Subtract { d, s1: None, s2, k } => write!(
+                f,
+                "subtract r{d} = 0 - {}",
+                Sum(s2, k)
+            ),
+            Instruction::Subtract {
+                d,
+                s1: Some(r),
+                s2,
+                k,
+            } => write!(f, "subtract r{d} = r{r} - {}", Sum(s2, k)),
             Instruction::Load { d, s1, k } => write!(f, "load r{d} = [{}]", Sum(s1, k)),
-            Instruction::Store { s1, s2, k, j } => write!(f, "store [{}] = {}", Sum(s1, k), Sum(s2, j)),
+            Instruction::Store { s1, s2, k, j } => write!(
+                f,
+                "store [{}] = {}",
+                Sum(s1, k),
+                Sum(s2, j)
+            ),
             Instruction::Branch { s1, k, j } => write!(f, "branch to {j} if {} = {k}", Sum(s1, 0)),
-            Instruction::Fence { before, after } => write!(f, "fence {}{}", Letter(before), Letter(after)),
+            Instruction::Fence { before, after } => write!(
+                f,
+                "fence {}{}",
+                Letter(before),
+                Letter(after)
+            ),
         }
     }
 }

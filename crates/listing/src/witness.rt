@@ -34,7 +34,10 @@ impl fmt::Display for SourceText as SourceTextDisplay {
         if processor == 0xff && position == 0xff {
             write!(f, "took {value} from the start")
         } else {
-            write!(f, "took {value} from processor {processor} position {position}")
+            write!(
+                f,
+                "took {value} from processor {processor} position {position}"
+            )
         }
     }
 }
@@ -48,7 +51,10 @@ impl fmt::Display for Accesses<'_> as AccessesDisplay {
         if self.0.is_empty() {
             return write!(f, " no access");
         }
-        for Access { processor, position } in self.0 {
+        for Access {
+            processor,
+            position,
+        } in self.0 {
             write!(f, " {processor}:{position}")?;
         }
         Ok(())
