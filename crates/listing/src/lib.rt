@@ -2,4 +2,5 @@
 pub mod instruction;
 pub mod question;
 pub mod refusal;
+pub mod sample;
 pub mod witness;

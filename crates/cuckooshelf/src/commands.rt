@@ -1,0 +1,12 @@
+// The commands, one a module.
+use super::failure::Failure;
+
+pub mod help;
+pub mod question;
+pub mod sample;
+pub mod vectors;
+
+/// What the command line can ask for.
+pub trait Command {
+    fn run(&self, rt: &LibcRuntime) -> Result<(), Failure>;
+}

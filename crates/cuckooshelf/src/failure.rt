@@ -1,0 +1,58 @@
+// Why the program ends with status 1.
+use std::alloc::AllocError;
+use std::alloc::Refused;
+use std::fmt;
+use std::io;
+
+/// What went wrong.
+#[derive(Drop)]
+pub enum Failure {
+    UnknownCommand(String),
+    FileWanting,
+    TooManyOperands,
+    /// The file could not be read.
+    Unreadable(String, io::Error),
+    /// Some lines of a file of cases differ.
+    Differing,
+    Memory,
+    /// The arguments could not be read, or the output not be written.
+    Outside(io::Error),
+}
+
+pub impl From<AllocError> for Failure as FailureFromAlloc {
+    fn from(_e: AllocError) -> Failure {
+        Failure::Memory
+    }
+}
+
+pub impl<T: Drop> From<Refused<T>> for Failure as FailureFromRefused {
+    fn from(_e: Refused<T>) -> Failure {
+        Failure::Memory
+    }
+}
+
+pub impl From<io::Error> for Failure as FailureFromIo {
+    fn from(e: io::Error) -> Failure {
+        Failure::Outside(e)
+    }
+}
+
+pub impl fmt::Display for Failure as FailureDisplay {
+    fn fmt<W: fmt::Write>(&self, f: &mut fmt::Formatter<W>) -> fmt::Result {
+        match self {
+            Failure::UnknownCommand(word) => {
+                write!(f, "no command is called {word}; cuckooshelf help lists the commands")
+            }
+            Failure::FileWanting => {
+                write!(f, "the command wants a file; cuckooshelf help shows how to call it")
+            }
+            Failure::TooManyOperands => {
+                write!(f, "too many arguments; cuckooshelf help shows how to call a command")
+            }
+            Failure::Unreadable(path, e) => write!(f, "cannot read {path}: {e}"),
+            Failure::Differing => write!(f, "lines differ"),
+            Failure::Memory => write!(f, "no memory left"),
+            Failure::Outside(e) => write!(f, "{e}"),
+        }
+    }
+}
