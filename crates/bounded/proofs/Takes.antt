@@ -11,9 +11,13 @@ take-append-take zero xs ys = refl
 take-append-take (suc n) [] ys = refl
 take-append-take (suc n) (x ∷ xs) ys = ap (_∷_ x) (take-append-take n xs ys)
 
+-- Two lists are added one after the other.
+pub take-append-both : {X : Type 0} (n : ℕ) (xs ys zs : List X) → take n (take n (xs ++ ys) ++ zs) ≡ take n (xs ++ (ys ++ zs))
+take-append-both n xs ys zs = take-append-take n (xs ++ ys) zs ∙ ap (take n) (append-assoc xs ys zs)
+
 -- One more element of xs is added.
 pub take-append-more : {X : Type 0} (n : ℕ) (ws xs : List X) (i : ℕ) (x : X) → i < length xs → x ≡ getD xs i x →
     take n (take n (ws ++ take i xs) ++ x ∷ []) ≡ take n (ws ++ take (i + 1) xs)
 take-append-more n ws xs i x l r =
     let m : take (i + 1) xs ≡ take i xs ++ x ∷ [] = take-more xs i x l ∙ ap (λ y. take i xs ++ y ∷ []) (sym r) in
-    take-append-take n (ws ++ take i xs) (x ∷ []) ∙ ap (take n) (append-assoc ws (take i xs) (x ∷ []) ∙ ap (_++_ ws) (sym m))
+    take-append-both n ws (take i xs) (x ∷ []) ∙ ap (λ t. take n (ws ++ t)) (sym m)

@@ -1,7 +1,8 @@
 -- What the types of the code stand for.
-use mathlib.Core.List.{List, map}
+use mathlib.Core.List.{List, [], map}
 use Prim.Native.Nat.{ℕ}
 use denote.Ref.{now, RefT}
+use Rattle.bounded.specs.declared.vector.Bounded.{Bounded}
 use Rattle.bounded.specs.Items.{items}
 use Rattle.std.specs.Options.{mapped}
 use Rattle.std.specs.declared.result.Result.{Result}
@@ -24,6 +25,18 @@ execution-of w = record { paths = map items (items (w .paths)); sources = items 
 abbrev pub draft-of : Held → Draft
 draft-of d = record { paths = map items (items (d .paths)); sources = mapped items (d .sources); order = mapped items (d .order) }
 
+-- What a path field with these contents is, for its tests.
+abbrev pub path-cut : List ℕ → Cut
+path-cut b = record { tag = path-tag; contents = b; rest = [] }
+
+-- What a source field with these contents is, for its tests.
+abbrev pub source-cut : List ℕ → Cut
+source-cut b = record { tag = source-tag; contents = b; rest = [] }
+
+-- What an order field with these contents is, for its tests.
+abbrev pub order-cut : List ℕ → Cut
+order-cut b = record { tag = order-tag; contents = b; rest = [] }
+
 -- A field as its tag and contents, with the bytes behind it.
 abbrev pub cut-of : Field → List ℕ → Cut
 cut-of (Path contents) rest = record { tag = path-tag; contents = now contents; rest = rest }
@@ -34,6 +47,11 @@ cut-of (Order contents) rest = record { tag = order-tag; contents = now contents
 abbrev pub field-read : Result (Field × RefT (List ℕ)) Refusal → Result Cut Refusal
 field-read (Ok p) = Ok (cut-of (p .0) (now (p .1)))
 field-read (Err e) = Err e
+
+-- The answer of a reader of contents as a list.
+abbrev pub list-read : {X : Type 0} {N : ℕ} → Result (Bounded X N) Refusal → Result (List X) Refusal
+list-read (Ok v) = Ok (items v)
+list-read (Err e) = Err e
 
 -- The witness reader's answer as an execution.
 abbrev pub witness-read : Result Witness Refusal → Result Execution Refusal

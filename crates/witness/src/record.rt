@@ -14,3 +14,16 @@ pub struct Access {
     pub processor: u8,
     pub position: u8,
 }
+
+/// What fills the slots of sources that are not in use.
+pub(super) const NO_SOURCE: Source = Source {
+    processor: 0,
+    position: 0,
+    value: 0,
+};
+
+/// What fills the slots of accesses that are not in use.
+pub(super) const NO_ACCESS: Access = Access {
+    processor: 0,
+    position: 0,
+};

@@ -4,6 +4,8 @@ ghost use mathlib.Core.List.{[], _∷_};
 ghost use lib.ListN.{length, getD};
 ghost use Rattle.witness.specs.Views.{execution-of};
 use super::super::record::Access;
+use super::super::record::NO_ACCESS;
+use super::super::record::NO_SOURCE;
 use super::super::record::Source;
 use super::Witness;
 use bounded::vector::Bounded;
@@ -17,15 +19,8 @@ impl Witness {
         paths.push(Bounded::new(0));
         Witness {
             paths,
-            sources: Bounded::new(Source {
-                processor: 0,
-                position: 0,
-                value: 0,
-            }),
-            order: Bounded::new(Access {
-                processor: 0,
-                position: 0,
-            }),
+            sources: Bounded::new(NO_SOURCE),
+            order: Bounded::new(NO_ACCESS),
         }
     }
 
