@@ -5,6 +5,7 @@ pub mod help;
 pub mod question;
 pub mod sample;
 pub mod vectors;
+pub mod witness;
 
 /// What the command line can ask for.
 pub trait Command {

@@ -41,13 +41,22 @@ pub impl fmt::Display for Failure as FailureDisplay {
     fn fmt<W: fmt::Write>(&self, f: &mut fmt::Formatter<W>) -> fmt::Result {
         match self {
             Failure::UnknownCommand(word) => {
-                write!(f, "no command is called {word}; cuckooshelf help lists the commands")
+                write!(
+                    f,
+                    "no command is called {word}; cuckooshelf help lists the commands"
+                )
             }
             Failure::FileWanting => {
-                write!(f, "the command wants a file; cuckooshelf help shows how to call it")
+                write!(
+                    f,
+                    "the command wants a file; cuckooshelf help shows how to call it"
+                )
             }
             Failure::TooManyOperands => {
-                write!(f, "too many arguments; cuckooshelf help shows how to call a command")
+                write!(
+                    f,
+                    "too many arguments; cuckooshelf help shows how to call a command"
+                )
             }
             Failure::Unreadable(path, e) => write!(f, "cannot read {path}: {e}"),
             Failure::Differing => write!(f, "lines differ"),

@@ -8,6 +8,8 @@ use commands::sample::Sample;
 use commands::sample::SampleCommand;
 use commands::vectors::CompareVectors;
 use commands::vectors::CompareVectorsCommand;
+use commands::witness::ListWitness;
+use commands::witness::ListWitnessCommand;
 use failure::Failure;
 use failure::FailureDisplay;
 use failure::FailureFromAlloc;
@@ -20,7 +22,7 @@ mod files;
 mod forms;
 
 /// The one operand of a command that takes a file.
-fn file<'a>(operands: &'a [String]) -> Result<&'a str, Failure> {
+fn file(operands: &[String]) -> Result<&str, Failure> {
     match operands {
         [path] => Ok(path.as_str()),
         [] => Err(Failure::FileWanting),
@@ -42,6 +44,7 @@ fn dispatch(rt: &LibcRuntime, words: &[String]) -> Result<(), Failure> {
             Help.run(rt)
         }
         "question" => ListQuestion(file(operands)?).run(rt),
+        "witness" => ListWitness(file(operands)?).run(rt),
         "vectors" => CompareVectors(file(operands)?).run(rt),
         _ => Err(Failure::UnknownCommand(first.clone()?)),
     }

@@ -1,6 +1,8 @@
 // The listing of a question.
 use super::instruction::InstructionText;
 use super::instruction::InstructionTextDisplay;
+use super::refusal::RefusalText;
+use super::refusal::RefusalTextDisplay;
 use question::instruction::Instruction;
 use question::question::Question;
 use std::fmt;
@@ -43,5 +45,19 @@ pub impl fmt::Display for QuestionListing<'_> as QuestionListingDisplay {
             write!(f, "\nprocessor {processor}{code}")?;
         }
         Ok(())
+    }
+}
+
+/// The question that bytes are, or why they are refused.
+#[derive(Clone, Copy)]
+pub struct QuestionBytes<'a>(pub &'a [u8]);
+
+pub impl fmt::Display for QuestionBytes<'_> as QuestionBytesDisplay {
+    fn fmt<W: fmt::Write>(&self, f: &mut fmt::Formatter<W>) -> fmt::Result {
+        let mut question = Question::new();
+        match question.read(self.0) {
+            Ok(()) => write!(f, "{}", QuestionListing(&question)),
+            Err(refusal) => write!(f, "{}", RefusalText(refusal)),
+        }
     }
 }

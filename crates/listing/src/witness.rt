@@ -1,4 +1,6 @@
 // The listing of a witness.
+use super::refusal::RefusalText;
+use super::refusal::RefusalTextDisplay;
 use std::fmt;
 use witness::record::Access;
 use witness::record::Source;
@@ -76,5 +78,19 @@ pub impl fmt::Display for WitnessListing<'_> as WitnessListingDisplay {
             writeln!(f, "load {load} {}", SourceText(*source))?;
         }
         write!(f, "memory order{}", Accesses(witness.order()))
+    }
+}
+
+/// The witness that bytes are, or why they are refused.
+#[derive(Clone, Copy)]
+pub struct WitnessBytes<'a>(pub &'a [u8]);
+
+pub impl fmt::Display for WitnessBytes<'_> as WitnessBytesDisplay {
+    fn fmt<W: fmt::Write>(&self, f: &mut fmt::Formatter<W>) -> fmt::Result {
+        let mut witness = Witness::new();
+        match witness.read(self.0) {
+            Ok(()) => write!(f, "{}", WitnessListing(&witness)),
+            Err(refusal) => write!(f, "{}", RefusalText(refusal)),
+        }
     }
 }

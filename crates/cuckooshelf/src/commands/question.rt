@@ -4,11 +4,8 @@ use super::super::failure::FailureFromIo;
 use super::super::files::ReadFiles;
 use super::super::files::RuntimeReadFiles;
 use super::Command;
-use listing::question::QuestionListing;
-use listing::question::QuestionListingDisplay;
-use listing::refusal::RefusalText;
-use listing::refusal::RefusalTextDisplay;
-use question::question::Question;
+use listing::question::QuestionBytes;
+use listing::question::QuestionBytesDisplay;
 
 /// Lists the question in a file.
 #[derive(Clone, Copy)]
@@ -17,11 +14,7 @@ pub struct ListQuestion<'a>(pub &'a str);
 pub impl Command for ListQuestion<'_> as ListQuestionCommand {
     fn run(&self, rt: &LibcRuntime) -> Result<(), Failure> {
         let bytes = rt.read_bytes(self.0)?;
-        let mut question = Question::new();
-        match question.read(&bytes) {
-            Ok(()) => rt.println(QuestionListing(&question))?,
-            Err(refusal) => rt.println(RefusalText(refusal))?,
-        }
+        rt.println(QuestionBytes(&bytes))?;
         Ok(())
     }
 }

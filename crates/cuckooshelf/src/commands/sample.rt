@@ -2,25 +2,25 @@
 use super::super::failure::Failure;
 use super::super::failure::FailureFromIo;
 use super::Command;
-use listing::question::QuestionListing;
-use listing::question::QuestionListingDisplay;
-use listing::refusal::RefusalText;
-use listing::refusal::RefusalTextDisplay;
+use listing::question::QuestionBytes;
+use listing::question::QuestionBytesDisplay;
 use listing::sample;
-use question::question::Question;
+use listing::witness::WitnessBytes;
+use listing::witness::WitnessBytesDisplay;
 
-/// Lists the sample question.
+/// Lists a question and a witness for it that the program has built in.
 #[derive(Clone, Copy)]
 pub struct Sample;
 
 pub impl Command for Sample as SampleCommand {
     fn run(&self, rt: &LibcRuntime) -> Result<(), Failure> {
-        let mut question = Question::new();
-        rt.println("A sample question; cuckooshelf help lists the commands.")?;
-        match question.read(&sample::QUESTION) {
-            Ok(()) => rt.println(QuestionListing(&question))?,
-            Err(refusal) => rt.println(RefusalText(refusal))?,
-        }
+        let question = QuestionBytes(sample::QUESTION);
+        let witness = WitnessBytes(sample::WITNESS);
+        println!(
+            rt,
+            "A sample question (cuckooshelf help lists the commands):\n\n{question}\n"
+        )?;
+        println!(rt, "A sample witness for it:\n\n{witness}")?;
         Ok(())
     }
 }

@@ -14,14 +14,13 @@ use std::fmt;
 
 /// What came of one line.
 #[derive(Drop)]
-enum Outcome {
+enum Outcome<'a> {
     /// Blank, or a remark.
     NoCase,
-    /// A form without an answer yet.
+    /// A form to which there is no answer yet.
     Skipped,
     Agrees,
-    /// The answer is another than the line has.
-    Answered(String),
+    Differs { expected: &'a str, answer: String },
     Malformed,
 }
 
@@ -45,7 +44,7 @@ impl fmt::Display for Tally as TallyDisplay {
 }
 
 /// Compares the answer that a line has with the one that its case gets.
-fn compare(heap: Global, line: &str) -> Result<Outcome, AllocError> {
+fn compare(heap: Global, line: &str) -> Result<Outcome<'_>, AllocError> {
     if line.is_empty() || line.starts_with('#') {
         return Ok(Outcome::NoCase);
     }
@@ -65,7 +64,7 @@ fn compare(heap: Global, line: &str) -> Result<Outcome, AllocError> {
     match answer {
         None => Ok(Outcome::Malformed),
         Some(answer) if answer.as_str() == expected => Ok(Outcome::Agrees),
-        Some(answer) => Ok(Outcome::Answered(answer)),
+        Some(answer) => Ok(Outcome::Differs { expected, answer }),
     }
 }
 
@@ -82,8 +81,9 @@ fn compare_all(rt: &LibcRuntime, text: &str) -> Result<Tally, Failure> {
             Outcome::NoCase => {}
             Outcome::Skipped => tally.skipped += 1,
             Outcome::Agrees => tally.agree += 1,
-            Outcome::Answered(answer) => {
-                println!(rt, "line {number} differs: {line}\n  answered: {answer}")?;
+            Outcome::Differs { expected, answer } => {
+                println!(rt, "line {number} differs: {line}")?;
+                println!(rt, "  expected {expected}, answered {answer}")?;
                 tally.differ += 1;
             }
             Outcome::Malformed => {
