@@ -1,4 +1,5 @@
 // Cases of the form `question Q => ok | refused N`.
+ghost use Rattle.cuckooshelf.specs.Answers.{question-answer};
 use super::Form;
 use hex::decode::decode;
 use question::question::Question;
@@ -9,6 +10,8 @@ use std::alloc::Global;
 pub enum QuestionForm {}
 
 pub impl Form for QuestionForm as QuestionFormForm {
+    ghost answers = { question-answer };
+
     fn answer(heap: Global, operands: &str) -> Result<Option<String>, AllocError> {
         let Some(bytes) = decode(heap, operands.as_bytes())? else {
             return Ok(None);
