@@ -5,3 +5,7 @@ pub mod CodeFaults
 pub mod Cells
 pub mod Processors
 pub mod Meanings
+pub mod WitnessesMean
+pub mod WitnessesRead
+pub mod WitnessesRecords
+pub mod WitnessesWritten

@@ -1,2 +1,3 @@
 // The laws of the formats: each function carries a theorem in its contract.
 pub mod questions;
+pub mod witnesses;

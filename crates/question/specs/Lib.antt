@@ -6,4 +6,6 @@ pub mod Cells
 pub mod Codes
 pub mod Read
 pub mod Views
+pub mod Kinds
+pub mod Effects
 pub mod Means

@@ -1,4 +1,6 @@
 // Instructions.
+pub mod effects;
+pub mod kinds;
 
 /// The two types of access to a cell.
 #[derive(Clone, Copy, PartialEq, Eq, Debug)]

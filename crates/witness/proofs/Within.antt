@@ -1,6 +1,6 @@
 -- Every witness is within the bounds, and how many bytes it has.
-use mathlib.Core.Path.{_≡_, refl, sym, ap, _∙_}
-use mathlib.Core.List.{List, [], _∷_, _++_, map}
+use mathlib.Core.Path.{_≡_, refl}
+use mathlib.Core.List.{List, [], _∷_, _++_}
 use Prim.Native.Nat.{ℕ, _+_, _*_, _≤_}
 use native.Mathlib.Omega.{arith}
 use lib.ListN.{length}
@@ -15,7 +15,7 @@ use Rattle.witness.specs.declared.record.Access.{Access}
 use Rattle.witness.specs.declared.record.Source.{Source}
 use Rattle.witness.specs.declared.witness.Witness.{Witness}
 use Rattle.witness.specs.Bytes.{path-tag, source-tag, order-tag, bytes-of}
-use Rattle.witness.specs.Execution.{Execution, Within}
+use Rattle.witness.specs.Execution.{Within}
 use Rattle.witness.specs.Means.{Witnesses-have-at-most-466-bytes}
 use Rattle.witness.specs.Records.{source-bytes, access-bytes}
 use Rattle.witness.specs.Views.{execution-of}
@@ -55,6 +55,7 @@ length-paths (p ∷ ps) h =
     let s : length p ≤ 16 = h .0 in
     omega arith
 
+-- Four paths of nineteen bytes, a source field of 259, an order field of 131.
 pub witnesses-have-at-most-466-bytes : Witnesses-have-at-most-466-bytes
 unfolding bytes-of
 witnesses-have-at-most-466-bytes w h =

@@ -1,6 +1,7 @@
 // What a question tells of itself.
 ghost use mathlib.Core.Path.{_≡_};
 ghost use mathlib.Core.List.{[], _∷_};
+ghost use Prim.Native.Nat.{_≤_};
 ghost use lib.ListN.{length, getD};
 ghost use Rattle.std.specs.declared.result.Result.the-variants.{Ok};
 ghost use Rattle.question.specs.Litmus.{code-at};
@@ -33,7 +34,8 @@ impl Question {
 
     /// The instructions of a processor; none where there is no such processor.
     pub fn code(&self, processor: usize) -> &[Instruction]
-        ensures { λ r. ⌜ now r ≡ code-at (litmus-of (now (self .entry))) processor ⌝ }
+        ensures value { λ r. ⌜ now r ≡ code-at (litmus-of (now (self .entry))) processor ⌝ }
+        ensures few { λ r. ⌜ length (now r) ≤ 16 ⌝ }
     {
         let all = self.processors.as_slice();
         if processor < all.len() {

@@ -4,7 +4,7 @@ use mathlib.Core.List.{[], map}
 use Prim.Native.Nat.{_<_, _≤_}
 use lib.ListN.{length, getD}
 use Rattle.bounded.specs.Items.{items}
-use Rattle.std.proofs.shelf.Lists.{length-map, getD-map, getD-past}
+use Rattle.std.proofs.shelf.Lists.{length-map, length-take, getD-map, getD-past}
 use Rattle.question.specs.Views.{instructions-of}
 use Rattle.question.proofs.question.Question.code.Needs as need
 
@@ -14,10 +14,14 @@ returns-then-processor-all c =
     let p = c .args .processor in
     let d = c .index-all-processor .result in
     let l : p < length xs = omega (arith, ap length (c .as-slice-all .ensures)) in
-    c .as-slice .ensures ∙ ap (λ ys. instructions-of (getD ys p d)) (c .as-slice-all .ensures) ∙ sym (getD-map instructions-of xs p d [] l)
+    let v = getD (c .as-slice-all .result .now) p d .instructions in
+    record {
+      value = c .as-slice .ensures ∙ ap (λ ys. instructions-of (getD ys p d)) (c .as-slice-all .ensures) ∙ sym (getD-map instructions-of xs p d [] l);
+      few = omega (arith, ap length (c .as-slice .ensures), length-take (v .len) (v .slots), v .fits);
+    }
 
 pub returns-else-processor-all : need.returns-else-processor-all
 returns-else-processor-all c =
     let xs = items (c .args .self .now .processors) in
     let e = ap length (c .as-slice-all .ensures) in
-    sym (getD-past (map instructions-of xs) (c .args .processor) [] (rw (length-map xs instructions-of) (omega arith)))
+    record { value = sym (getD-past (map instructions-of xs) (c .args .processor) [] (rw (length-map xs instructions-of) (omega arith))); few = omega arith }

@@ -1,5 +1,4 @@
 use mathlib.Core.Path.{_≡_}
-use mathlib.Core.List.{map}
 use lib.ListN.{take}
 use Rattle.std.specs.shelf.Lists.{joined}
 use Rattle.bounded.specs.Items.{items}
