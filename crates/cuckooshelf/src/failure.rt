@@ -15,8 +15,10 @@ pub enum Failure {
     /// Some lines of a file of cases differ.
     Differing,
     Memory,
-    /// The arguments could not be read, or the output not be written.
-    Outside(io::Error),
+    /// The arguments could not be read.
+    Arguments(io::Error),
+    /// The output could not be written.
+    Output(io::Error),
 }
 
 pub impl From<AllocError> for Failure as FailureFromAlloc {
@@ -33,7 +35,7 @@ pub impl<T: Drop> From<Refused<T>> for Failure as FailureFromRefused {
 
 pub impl From<io::Error> for Failure as FailureFromIo {
     fn from(e: io::Error) -> Failure {
-        Failure::Outside(e)
+        Failure::Output(e)
     }
 }
 
@@ -43,7 +45,7 @@ pub impl fmt::Display for Failure as FailureDisplay {
             Failure::UnknownCommand(word) => {
                 write!(
                     f,
-                    "no command is called {word}; cuckooshelf help lists the commands"
+                    "no command is called {word:?}; cuckooshelf help lists the commands"
                 )
             }
             Failure::FileWanting => {
@@ -61,7 +63,8 @@ pub impl fmt::Display for Failure as FailureDisplay {
             Failure::Unreadable(path, e) => write!(f, "cannot read {path}: {e}"),
             Failure::Differing => write!(f, "lines differ"),
             Failure::Memory => write!(f, "no memory left"),
-            Failure::Outside(e) => write!(f, "{e}"),
+            Failure::Arguments(e) => write!(f, "cannot read the arguments: {e}"),
+            Failure::Output(e) => write!(f, "cannot write the output: {e}"),
         }
     }
 }

@@ -13,7 +13,6 @@ use commands::witness::ListWitnessCommand;
 use failure::Failure;
 use failure::FailureDisplay;
 use failure::FailureFromAlloc;
-use failure::FailureFromIo;
 use std::env;
 
 mod commands;
@@ -51,7 +50,10 @@ fn dispatch(rt: &LibcRuntime, words: &[String]) -> Result<(), Failure> {
 }
 
 fn run(rt: &LibcRuntime) -> Result<(), Failure> {
-    let words: Vec<String> = env::args(rt)?.skip(1).collect(rt.alloc())?;
+    let words: Vec<String> = match env::args(rt) {
+        Ok(args) => args.skip(1).collect(rt.alloc())?,
+        Err(e) => return Err(Failure::Arguments(e)),
+    };
     dispatch(rt, &words)
 }
 

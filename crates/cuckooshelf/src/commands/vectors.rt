@@ -1,4 +1,10 @@
 // The command `vectors`.
+ghost use mathlib.Core.Path.{_≡_};
+ghost use Rattle.std.specs.Of.String.{string-bytes};
+ghost use Rattle.std.specs.Options.{mapped};
+ghost use Rattle.std.specs.Vec.{made};
+ghost use Rattle.cuckooshelf.specs.Answers.{case-answer, is-awaited};
+ghost use Rattle.cuckooshelf.specs.Lines.{Judged};
 use super::super::failure::Failure;
 use super::super::failure::FailureFromAlloc;
 use super::super::failure::FailureFromIo;
@@ -43,25 +49,43 @@ impl fmt::Display for Tally as TallyDisplay {
     }
 }
 
-/// Compares the answer that a line has with the one that its case gets.
-fn compare(heap: Global, line: &str) -> Result<Outcome<'_>, AllocError> {
-    if line.is_empty() || line.starts_with('#') {
+/// Is this a form to which there is no answer yet.
+fn awaited(form: &str) -> bool
+    ensures { λ r. ⌜ r ≡ is-awaited (now (form .entry)) ⌝ }
+{
+    form == "run" || form == "check" || form == "rebuild"
+}
+
+/// The answer to a case, by the name of its form; nothing where it is malformed.
+fn answer(heap: Global, form: &str, operands: &str) -> Result<Option<String>, AllocError>
+    ensures { λ r. ⌜ made r (λ o. mapped string-bytes o ≡ case-answer (now (form .entry)) (now (operands .entry))) ⌝ }
+{
+    match form {
+        "question" => QuestionForm::answer(heap, operands),
+        _ => Ok(None),
+    }
+}
+
+/// Compares the answer that a line has with the answer to its case.
+fn compare(heap: Global, line: &str) -> Result<Outcome<'_>, AllocError>
+    ensures { λ r. ⌜ made r (λ o. Judged (now (line .entry)) o) ⌝ }
+{
+    if line.is_empty() {
+        return Ok(Outcome::NoCase);
+    }
+    if line.starts_with('#') {
         return Ok(Outcome::NoCase);
     }
     let Some((form, rest)) = line.split_once(' ') else {
         return Ok(Outcome::Malformed);
     };
-    if matches!(form, "run" | "check" | "rebuild") {
+    if awaited(form) {
         return Ok(Outcome::Skipped);
     }
     let Some((operands, expected)) = rest.split_once(" => ") else {
         return Ok(Outcome::Malformed);
     };
-    let answer = match form {
-        "question" => QuestionForm::answer(heap, operands)?,
-        _ => None,
-    };
-    match answer {
+    match answer(heap, form, operands)? {
         None => Ok(Outcome::Malformed),
         Some(answer) if answer.as_str() == expected => Ok(Outcome::Agrees),
         Some(answer) => Ok(Outcome::Differs { expected, answer }),
