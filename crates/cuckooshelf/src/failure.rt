@@ -1,6 +1,5 @@
 // Why the program ends with status 1.
 use std::alloc::AllocError;
-use std::alloc::Refused;
 use std::fmt;
 use std::io;
 
@@ -23,12 +22,6 @@ pub enum Failure {
 
 pub impl From<AllocError> for Failure as FailureFromAlloc {
     fn from(_e: AllocError) -> Failure {
-        Failure::Memory
-    }
-}
-
-pub impl<T: Drop> From<Refused<T>> for Failure as FailureFromRefused {
-    fn from(_e: Refused<T>) -> Failure {
         Failure::Memory
     }
 }

@@ -70,10 +70,7 @@ fn answer(heap: Global, form: &str, operands: &str) -> Result<Option<String>, Al
 fn compare(heap: Global, line: &str) -> Result<Outcome<'_>, AllocError>
     ensures { λ r. ⌜ made r (λ o. Judged (now (line .entry)) o) ⌝ }
 {
-    if line.is_empty() {
-        return Ok(Outcome::NoCase);
-    }
-    if line.starts_with('#') {
+    if line.is_empty() || line.starts_with('#') {
         return Ok(Outcome::NoCase);
     }
     let Some((form, rest)) = line.split_once(' ') else {
