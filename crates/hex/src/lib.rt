@@ -1,0 +1,2 @@
+// Bytes written in hexadecimal.
+pub mod decode;
