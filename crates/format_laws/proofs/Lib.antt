@@ -9,3 +9,4 @@ pub mod WitnessesMean
 pub mod WitnessesRead
 pub mod WitnessesRecords
 pub mod WitnessesWritten
+pub mod Computed
