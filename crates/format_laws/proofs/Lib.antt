@@ -2,6 +2,7 @@ pub mod Operands
 pub mod Instructions
 pub mod Codes
 pub mod CodeFaults
+pub mod InstructionFaults
 pub mod Cells
 pub mod Processors
 pub mod Meanings
