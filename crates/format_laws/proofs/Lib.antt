@@ -2,6 +2,7 @@ pub mod Operands
 pub mod Instructions
 pub mod Codes
 pub mod CodeFaults
+pub mod InstructionFaults
 pub mod Cells
 pub mod Processors
 pub mod Meanings
@@ -9,3 +10,4 @@ pub mod WitnessesMean
 pub mod WitnessesRead
 pub mod WitnessesRecords
 pub mod WitnessesWritten
+pub mod Computed
