@@ -1,6 +1,7 @@
 // What closed runs answer.
 use super::steps::STORE_LOAD;
 use fields::refusal::Refusal;
+use fields::refusal::RefusalPartialEq;
 use machine::closed::ClosedRun;
 use machine::open::OpenRun;
 use machine::step::Step;
@@ -79,7 +80,7 @@ fn check_finished<M: Memory + Drop>(mut run: ClosedRun<M>) -> Result<(), Fail> {
     let mut area = [7u8; 20];
     check(run.witness(&mut area) == Ok(19))?;
     check(area[19] == 7)?;
-    check(area[0..19] == *WITNESS)
+    check(&area[0..19] == WITNESS)
 }
 
 #[test]
