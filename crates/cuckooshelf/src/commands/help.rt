@@ -21,7 +21,8 @@ A step is four bytes: rule, processor, position, guess. The rules are 1 fetch,
 2 arithmetic, 3 branch, 4 fence, 5 load, 6 store data, 7 store and 8 address. A run
 lists what came of each step: how many entries it removed, or why it was refused.
 If every processor is at its end with all done, the run is finished, and its
-registers, its cells, its witness and the bytes of its witness follow.
+registers, the cells that are not 0 from the start, its witness and the bytes of
+its witness follow.
 In the listing of a witness, the memory order 0:1 1:0 is the access of processor 0
 at position 1, then that of processor 1 at position 0.
 A case is a line such as: question 500000 => ok

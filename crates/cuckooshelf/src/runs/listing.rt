@@ -11,6 +11,7 @@ use listing::witness::WitnessBytesDisplay;
 use machine::step::Step;
 use memory::cell::Cell;
 use memory::cell::Mark;
+use memory::cell::MarkPartialEq;
 use rules::rule::Rule;
 use std::fmt;
 
@@ -104,19 +105,17 @@ impl fmt::Display for MarkText as MarkTextDisplay {
     }
 }
 
-/// The cells, a line for each.
+/// The cells that are not 0 from the start, a line for each.
 #[derive(Clone, Copy)]
 struct CellLines<'a>(&'a [Cell]);
 
 impl fmt::Display for CellLines<'_> as CellLinesDisplay {
     fn fmt<W: fmt::Write>(&self, f: &mut fmt::Formatter<W>) -> fmt::Result {
         for (address, cell) in self.0.iter().enumerate() {
-            write!(
-                f,
-                "\ncell {address} = {} {}",
-                cell.value,
-                MarkText(cell.mark)
-            )?;
+            let Cell { value, mark } = *cell;
+            if value != 0 || mark != Mark::Start {
+                write!(f, "\ncell {address} = {value} {}", MarkText(mark))?;
+            }
         }
         Ok(())
     }
