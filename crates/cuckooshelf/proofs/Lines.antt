@@ -1,5 +1,5 @@
 -- The parts of a line are those of a case.
-use mathlib.Core.Path.{_≡_, refl, sym, ap, _∙_}
+use mathlib.Core.Path.{_≡_, refl, sym, ap, subst, _∙_}
 use mathlib.Core.Bool.{Bool, true, false}
 use mathlib.Core.List.{List, [], _∷_, _++_}
 use Prim.Native.Nat.{ℕ}
@@ -22,14 +22,14 @@ pub case-from-parts : {line form rest operands expected : List ℕ} → line ≡
     Case line form operands expected
 case-from-parts {form = form} p q = record { whole = p ∙ ap (λ (r : List ℕ). form ++ (32 ∷ r)) q }
 
--- The answer that was found is the answer to the case.
-pub found-answer : {S : Type 0} (text : S → List ℕ) (o : Option S) (x : S) (w : Option (List ℕ)) → mapped text o ≡ w → o ≡ Some x → w ≡ Some (text x)
-found-answer text o x w p q = sym p ∙ ap (mapped text) q
+-- What is right of an answer is right of the text that was found.
+pub found-answer : {S : Type 0} (text : S → List ℕ) (o : Option S) (x : S) (Right : Option (List ℕ) → Type 0) → Right (mapped text o) → o ≡ Some x → Right (Some (text x))
+found-answer text o x Right p q = subst Right (ap (mapped text) q) p
 
 -- A comparison that came out true: the answer is the expected one.
-pub answer-agrees : (w : Option (List ℕ)) (answer text expected : List ℕ) (b : Bool) → w ≡ Some answer → text ≡ answer → Decides b (text ≡ expected) →
-    b ≡ true → w ≡ Some expected
-answer-agrees w answer text expected b p q d t = rw (p, ← q, d .0 t) refl
+pub answer-agrees : (Right : Option (List ℕ) → Type 0) (answer text expected : List ℕ) (b : Bool) → Right (Some answer) → text ≡ answer →
+    Decides b (text ≡ expected) → b ≡ true → Right (Some expected)
+answer-agrees Right answer text expected b p q d t = subst Right (ap Some (sym q ∙ d .0 t)) p
 
 -- A comparison that came out false: the answer is another.
 pub answer-differs : (answer text expected : List ℕ) (b : Bool) → text ≡ answer → Decides b (text ≡ expected) → b ≡ false → answer ≡ expected → ⊥

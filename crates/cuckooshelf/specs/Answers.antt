@@ -1,5 +1,6 @@
 -- The answers to cases, in words.
-use mathlib.Core.Bool.{Bool, cond, _||_}
+use mathlib.Core.Path.{_≡_}
+use mathlib.Core.Bool.{Bool, false, cond, _||_}
 use mathlib.Core.List.{List, _++_}
 use Prim.Native.Nat.{ℕ}
 use lib.Chars.{codes}
@@ -24,10 +25,14 @@ read-answer (Err e) = codes "refused " ++ decimal (refusal-number e)
 abbrev pub question-answer : List ℕ → Option (List ℕ)
 question-answer text = mapped (λ b. read-answer (question-of b)) (hex-bytes text)
 
--- The answer to a case, by the name of its form; none for other names.
+-- The answer to a case that is not `run`, by the name of its form; none for other names.
 abbrev pub case-answer : List ℕ → List ℕ → Option (List ℕ)
 case-answer form operands = cond (sameBytes form (codes "question")) (question-answer operands) None
 
+-- An answer that is right for a case; of the answers to `run`, nothing is stated.
+abbrev pub Right-answer : List ℕ → List ℕ → Option (List ℕ) → Type 0
+Right-answer form operands answer = sameBytes form (codes "run") ≡ false → answer ≡ case-answer form operands
+
 -- The names of the forms to which there is no answer yet.
 abbrev pub is-awaited : List ℕ → Bool
-is-awaited form = sameBytes form (codes "run") || (sameBytes form (codes "check") || sameBytes form (codes "rebuild"))
+is-awaited form = sameBytes form (codes "check") || sameBytes form (codes "rebuild")

@@ -3,6 +3,7 @@ use super::failure::Failure;
 
 pub mod help;
 pub mod question;
+pub mod run;
 pub mod sample;
 pub mod vectors;
 pub mod witness;

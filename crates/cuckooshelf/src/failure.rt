@@ -8,6 +8,13 @@ use std::io;
 pub enum Failure {
     UnknownCommand(String),
     FileWanting,
+    FilesWanting,
+    /// An option without the name of a memory.
+    MemoryWanting,
+    UnknownOption(String),
+    UnknownMemory(String),
+    /// The file of steps ends inside of a step.
+    PartOfStep(String),
     TooManyOperands,
     /// The file could not be read.
     Unreadable(String, io::Error),
@@ -46,6 +53,26 @@ pub impl fmt::Display for Failure as FailureDisplay {
                     f,
                     "the command wants a file; cuckooshelf help shows how to call it"
                 )
+            }
+            Failure::FilesWanting => {
+                write!(
+                    f,
+                    "the command wants two files; cuckooshelf help shows how to call it"
+                )
+            }
+            Failure::MemoryWanting => write!(
+                f,
+                "two files, then at most --memory table or --memory list"
+            ),
+            Failure::UnknownOption(word) => write!(
+                f,
+                "no option is called {word:?}; --memory is one"
+            ),
+            Failure::UnknownMemory(word) => {
+                write!(f, "no memory is called {word:?}; table and list are")
+            }
+            Failure::PartOfStep(path) => {
+                write!(f, "{path} ends inside of a step: a step is four bytes")
             }
             Failure::TooManyOperands => {
                 write!(

@@ -1,9 +1,12 @@
-// The program: lists questions and witnesses, and compares files of cases.
+// The program: lists questions and witnesses, runs steps, and compares files of cases.
 use commands::Command;
 use commands::help::Help;
 use commands::help::HelpCommand;
 use commands::question::ListQuestion;
 use commands::question::ListQuestionCommand;
+use commands::run::MemoryKind;
+use commands::run::Run;
+use commands::run::RunCommand;
 use commands::sample::Sample;
 use commands::sample::SampleCommand;
 use commands::vectors::CompareVectors;
@@ -19,12 +22,43 @@ mod commands;
 mod failure;
 mod files;
 mod forms;
+mod runs;
 
 /// The one operand of a command that takes a file.
 fn file(operands: &[String]) -> Result<&str, Failure> {
     match operands {
         [path] => Ok(path.as_str()),
         [] => Err(Failure::FileWanting),
+        _ => Err(Failure::TooManyOperands),
+    }
+}
+
+/// The memory that an option names.
+fn memory(option: &String, name: &String) -> Result<MemoryKind, Failure> {
+    if option.as_str() != "--memory" {
+        return Err(Failure::UnknownOption(option.clone()?));
+    }
+    match MemoryKind::named(name.as_str()) {
+        Some(memory) => Ok(memory),
+        None => Err(Failure::UnknownMemory(name.clone()?)),
+    }
+}
+
+/// The run that operands state: two files, and the memory if it is not the table.
+fn stated_run(operands: &[String]) -> Result<Run<'_>, Failure> {
+    match operands {
+        [question, steps] => Ok(Run {
+            question: question.as_str(),
+            steps: steps.as_str(),
+            memory: MemoryKind::Table,
+        }),
+        [question, steps, option, name] => Ok(Run {
+            question: question.as_str(),
+            steps: steps.as_str(),
+            memory: memory(option, name)?,
+        }),
+        [] | [_] => Err(Failure::FilesWanting),
+        [_, _, _] => Err(Failure::MemoryWanting),
         _ => Err(Failure::TooManyOperands),
     }
 }
@@ -44,6 +78,7 @@ fn dispatch(rt: &LibcRuntime, words: &[String]) -> Result<(), Failure> {
         }
         "question" => ListQuestion(file(operands)?).run(rt),
         "witness" => ListWitness(file(operands)?).run(rt),
+        "run" => stated_run(operands)?.run(rt),
         "vectors" => CompareVectors(file(operands)?).run(rt),
         _ => Err(Failure::UnknownCommand(first.clone()?)),
     }

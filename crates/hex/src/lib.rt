@@ -1,2 +1,3 @@
 // Bytes written in hexadecimal.
 pub mod decode;
+pub mod encode;

@@ -3,7 +3,7 @@ ghost use mathlib.Core.Path.{_≡_};
 ghost use Rattle.std.specs.Of.String.{string-bytes};
 ghost use Rattle.std.specs.Options.{mapped};
 ghost use Rattle.std.specs.Vec.{made};
-ghost use Rattle.cuckooshelf.specs.Answers.{case-answer, is-awaited};
+ghost use Rattle.cuckooshelf.specs.Answers.{Right-answer, is-awaited};
 ghost use Rattle.cuckooshelf.specs.Lines.{Judged};
 use super::super::failure::Failure;
 use super::super::failure::FailureFromAlloc;
@@ -13,6 +13,8 @@ use super::super::files::RuntimeReadFiles;
 use super::super::forms::Form;
 use super::super::forms::question::QuestionForm;
 use super::super::forms::question::QuestionFormForm;
+use super::super::forms::run::RunForm;
+use super::super::forms::run::RunFormForm;
 use super::Command;
 use std::alloc::AllocError;
 use std::alloc::Global;
@@ -53,15 +55,16 @@ impl fmt::Display for Tally as TallyDisplay {
 fn awaited(form: &str) -> bool
     ensures { λ r. ⌜ r ≡ is-awaited (now (form .entry)) ⌝ }
 {
-    form == "run" || form == "check" || form == "rebuild"
+    form == "check" || form == "rebuild"
 }
 
 /// The answer to a case, by the name of its form; nothing where it is malformed.
 fn answer(heap: Global, form: &str, operands: &str) -> Result<Option<String>, AllocError>
-    ensures { λ r. ⌜ made r (λ o. mapped string-bytes o ≡ case-answer (now (form .entry)) (now (operands .entry))) ⌝ }
+    ensures { λ r. ⌜ made r (λ o. Right-answer (now (form .entry)) (now (operands .entry)) (mapped string-bytes o)) ⌝ }
 {
     match form {
         "question" => QuestionForm::answer(heap, operands),
+        "run" => RunForm::answer(heap, operands),
         _ => Ok(None),
     }
 }

@@ -1,4 +1,5 @@
 // Cases of the form `question Q => ok | refused N`.
+ghost use mathlib.Core.Path.{_≡_};
 ghost use Rattle.cuckooshelf.specs.Answers.{question-answer};
 use super::Form;
 use hex::decode::decode;
@@ -10,7 +11,7 @@ use std::alloc::Global;
 pub enum QuestionForm {}
 
 pub impl Form for QuestionForm as QuestionFormForm {
-    ghost answers = { question-answer };
+    ghost right = { λ operands answer. answer ≡ question-answer operands };
 
     fn answer(heap: Global, operands: &str) -> Result<Option<String>, AllocError> {
         let Some(bytes) = decode(heap, operands.as_bytes())? else {

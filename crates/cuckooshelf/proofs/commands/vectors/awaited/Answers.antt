@@ -1,7 +1,7 @@
--- The name is none of the first two.
+-- The name is not the first one.
 use borrow.Author.Needs.{needs}
 use Rattle.std.proofs.shelf.Equals.{sameBytes-decides}
 use Rattle.cuckooshelf.proofs.commands.vectors.awaited.Needs as need
 
-pub returns-else-eq-2 : need.returns-else-eq-2
-returns-else-eq-2 c = search (needs, sameBytes-decides)
+pub returns-else-eq : need.returns-else-eq
+returns-else-eq c = search (needs, sameBytes-decides)

@@ -13,7 +13,7 @@ use Rattle.std.specs.Of.String.{string-bytes}
 use Rattle.std.specs.Options.{mapped}
 use Rattle.std.specs.declared.option.Option.the-variants.{Some}
 use Rattle.cuckooshelf.proofs.Lines.{none-is-empty, case-from-parts, found-answer, answer-agrees, answer-differs}
-use Rattle.cuckooshelf.specs.Answers.{case-answer}
+use Rattle.cuckooshelf.specs.Answers.{Right-answer}
 use Rattle.cuckooshelf.proofs.commands.vectors.compare.Needs as need
 use Rattle.cuckooshelf.proofs.commands.vectors.compare.Needs.{then-is-empty·by·then-is-empty, then-is-empty·by·else-is-empty·then-starts-with}
 
@@ -42,12 +42,12 @@ returns-in-Some-2 c =
     let answer = string-bytes (c .in-Some-2 .answer) in
     let front = split-parts 32 (c .args .line .now) (Some (c .in-Some .form, c .in-Some .rest)) (c .in-Some .ensures tt .cases) (lit< tt) .0 in
     let back = split-text-parts (codes " => ") (c .in-Some .rest .now) (Some (c .in-Some-split-once .operands, c .in-Some-split-once .expected)) (c .in-Some-split-once .ensures tt .cases) in
-    let found = found-answer string-bytes (c .in-Continue-answer .field-0) (c .in-Some-2 .answer) (case-answer form operands) (c .in-Continue-answer .ensures tt) (c .in-Some-2 .is) in (
+    let found = found-answer string-bytes (c .in-Continue-answer .field-0) (c .in-Some-2 .answer) (Right-answer form operands) (c .in-Continue-answer .ensures tt) (c .in-Some-2 .is) in (
       form,
       operands,
       expected,
       case-from-parts front back,
-      answer-agrees (case-answer form operands) answer (c .as-str .result .now) expected (c .eq .result) found (c .as-str .ensures .value) (c .eq .ensures) (c .if-eq .taken),
+      answer-agrees (Right-answer form operands) answer (c .as-str .result .now) expected (c .eq .result) found (c .as-str .ensures .value) (c .eq .ensures) (c .if-eq .taken),
     )
 
 pub returns-in-Some-2-2 : need.returns-in-Some-2-2
@@ -58,7 +58,7 @@ returns-in-Some-2-2 c =
     let answer = string-bytes (c .in-Some-2 .answer) in
     let front = split-parts 32 (c .args .line .now) (Some (c .in-Some .form, c .in-Some .rest)) (c .in-Some .ensures tt .cases) (lit< tt) .0 in
     let back = split-text-parts (codes " => ") (c .in-Some .rest .now) (Some (c .in-Some-split-once .operands, c .in-Some-split-once .expected)) (c .in-Some-split-once .ensures tt .cases) in
-    let found = found-answer string-bytes (c .in-Continue-answer .field-0) (c .in-Some-2 .answer) (case-answer form operands) (c .in-Continue-answer .ensures tt) (c .in-Some-2 .is) in (
+    let found = found-answer string-bytes (c .in-Continue-answer .field-0) (c .in-Some-2 .answer) (Right-answer form operands) (c .in-Continue-answer .ensures tt) (c .in-Some-2 .is) in (
       form,
       operands,
       case-from-parts front back,
