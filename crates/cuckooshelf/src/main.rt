@@ -4,7 +4,6 @@ use commands::help::Help;
 use commands::help::HelpCommand;
 use commands::question::ListQuestion;
 use commands::question::ListQuestionCommand;
-use commands::run::MemoryKind;
 use commands::run::Run;
 use commands::run::RunCommand;
 use commands::sample::Sample;
@@ -16,6 +15,7 @@ use commands::witness::ListWitnessCommand;
 use failure::Failure;
 use failure::FailureDisplay;
 use failure::FailureFromAlloc;
+use runs::MemoryKind;
 use std::env;
 
 mod commands;
@@ -38,9 +38,10 @@ fn memory(option: &String, name: &String) -> Result<MemoryKind, Failure> {
     if option.as_str() != "--memory" {
         return Err(Failure::UnknownOption(option.clone()?));
     }
-    match MemoryKind::named(name.as_str()) {
-        Some(memory) => Ok(memory),
-        None => Err(Failure::UnknownMemory(name.clone()?)),
+    match name.as_str() {
+        "table" => Ok(MemoryKind::Table),
+        "list" => Ok(MemoryKind::List),
+        _ => Err(Failure::UnknownMemory(name.clone()?)),
     }
 }
 

@@ -4,7 +4,11 @@ use machine::closed::ClosedRun;
 use machine::open::OpenRun;
 use machine::step::Step;
 use memory::cell::Cell;
+use memory::cell_list::CellList;
+use memory::cell_list::methods::CellListMemory;
 use memory::memory::Memory;
+use memory::table::Table;
+use memory::table::TableMemory;
 use question::question::Question;
 use std::alloc::AllocError;
 use std::alloc::Global;
@@ -30,11 +34,59 @@ pub struct Record {
     pub results: Option<Results>,
 }
 
+/// The memories that a run can be over.
+#[derive(Clone, Copy)]
+pub enum MemoryKind {
+    Table,
+    List,
+}
+
+/// The bytes of a step file.
+#[derive(Clone, Copy)]
+pub struct StepBytes<'a>(pub &'a [u8]);
+
+/// What states steps.
+pub trait StatesSteps {
+    /// The steps; nothing where a part of a step is left over.
+    fn steps(&self, heap: Global) -> Result<Option<Vec<Step>>, AllocError>;
+}
+
+pub impl StatesSteps for StepBytes<'_> as StepBytesStatesSteps {
+    fn steps(&self, heap: Global) -> Result<Option<Vec<Step>>, AllocError> {
+        steps_of(heap, self.0)
+    }
+}
+
+/// What runs steps.
+pub trait RunsSteps {
+    /// Runs the steps of a question.
+    fn run_steps(
+        &self,
+        heap: Global,
+        question: &Question,
+        steps: &[Step],
+    ) -> Result<Record, AllocError>;
+}
+
+pub impl RunsSteps for MemoryKind as MemoryKindRunsSteps {
+    fn run_steps(
+        &self,
+        heap: Global,
+        question: &Question,
+        steps: &[Step],
+    ) -> Result<Record, AllocError> {
+        match self {
+            MemoryKind::Table => run_over(heap, question, steps, Table::new()),
+            MemoryKind::List => run_over(heap, question, steps, CellList::new()),
+        }
+    }
+}
+
 /// The most bytes that a witness has, and more.
 const AREA: usize = 512;
 
 /// The steps that bytes state, four bytes a step; nothing where a part of a step is left over.
-pub fn steps_of(heap: Global, bytes: &[u8]) -> Result<Option<Vec<Step>>, AllocError> {
+fn steps_of(heap: Global, bytes: &[u8]) -> Result<Option<Vec<Step>>, AllocError> {
     let mut steps = Vec::new(heap);
     let mut rest = bytes;
     while let [rule, processor, position, guess, behind @ ..] = rest {
@@ -120,7 +172,7 @@ fn take_steps<M: Memory>(
 }
 
 /// Runs the steps of a question over a memory.
-pub fn run_over<M: Memory + Drop>(
+fn run_over<M: Memory + Drop>(
     heap: Global,
     question: &Question,
     steps: &[Step],

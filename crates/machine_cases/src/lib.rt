@@ -11,7 +11,7 @@ mod results;
 mod steps;
 
 /// Whether the steps finish a run of the question over a table.
-pub(crate) fn finishes(question: &Question, steps: &[[u8; 4]]) -> bool {
+fn finishes(question: &Question, steps: &[[u8; 4]]) -> bool {
     let mut run = OpenRun::start(question, Table::new());
     for [rule, processor, position, guess] in steps {
         let _ = run.step(Step {

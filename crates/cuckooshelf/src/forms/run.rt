@@ -1,8 +1,12 @@
 // Cases of the form `run Q STEPS => ANSWERS END`.
-use super::super::commands::run::MemoryKind;
+use super::super::runs::MemoryKind;
+use super::super::runs::MemoryKindRunsSteps;
+use super::super::runs::RunsSteps;
+use super::super::runs::StatesSteps;
+use super::super::runs::StepBytes;
+use super::super::runs::StepBytesStatesSteps;
 use super::super::runs::answer::RunWords;
 use super::super::runs::answer::RunWordsDisplay;
-use super::super::runs::steps_of;
 use super::Form;
 use hex::decode::decode;
 use machine::step::Step;
@@ -20,7 +24,7 @@ fn words(
     question: &Question,
     steps: &[Step],
 ) -> Result<String, AllocError> {
-    let record = memory.run(heap, question, steps)?;
+    let record = memory.run_steps(heap, question, steps)?;
     format!(heap, "{}", RunWords(&record))
 }
 
@@ -42,7 +46,7 @@ fn answer_to(heap: Global, question: &str, steps: &str) -> Result<Option<String>
     let Some(step_bytes) = decode(heap, steps.as_bytes())? else {
         return Ok(None);
     };
-    let Some(steps) = steps_of(heap, &step_bytes)? else {
+    let Some(steps) = StepBytes(&step_bytes).steps(heap)? else {
         return Ok(None);
     };
     let mut question = Question::new();
