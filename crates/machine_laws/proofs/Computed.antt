@@ -11,7 +11,7 @@ store-then-load = (refl, refl, refl)
 
 pub early-load : Early-load-is-removed
 unfolding step-outcome run-all fetch-outcome act-outcome nearest first
-early-load = refl
+early-load = (refl, refl, refl)
 
 pub empty-question : Empty-question-finishes-at-once
 unfolding bytes-of

@@ -15,6 +15,7 @@ use Rattle.question.specs.Cells.{zeros}
 use Rattle.question.specs.Litmus.{Litmus}
 use Rattle.witness.specs.Bytes.{bytes-of}
 use Rattle.machine.specs.declared.step.Step.{Step}
+use Rattle.machine.specs.Fires.{entry}
 use Rattle.machine.specs.Results.{closed, register-answer}
 use Rattle.machine.specs.State.{State, started}
 use Rattle.machine.specs.Steps.{answer, step-outcome, run-all, after}
@@ -48,11 +49,17 @@ Store-then-load-reads-the-store =
     × (register-answer c 0 0 ≡ Ok 5)
     × (bytes-of (c .execution) ≡ 69 ∷ 0 ∷ 2 ∷ 0 ∷ 1 ∷ 82 ∷ 0 ∷ 4 ∷ 0 ∷ 0 ∷ 0 ∷ 5 ∷ 77 ∷ 0 ∷ 4 ∷ 0 ∷ 1 ∷ 0 ∷ 0 ∷ [])
 
--- A load done before the older store's address is known is removed when that address turns out to be its own.
+-- Both fetches, the load's address, the load.
+abbrev early-steps : List Step
+early-steps = step 1 0 0 0 ∷ step 1 0 0 0 ∷ step 8 0 1 0 ∷ step 5 0 1 0 ∷ []
+
+-- A load done before the older store's address is known reads 0, and is removed when that address turns out to be its own.
 abbrev pub Early-load-is-removed : Type 0
 Early-load-is-removed =
-    answers store-then-load (started store-then-load) (step 1 0 0 0 ∷ step 1 0 0 0 ∷ step 8 0 1 0 ∷ step 5 0 1 0 ∷ step 8 0 0 0 ∷ [])
-    ≡ Ok 0 ∷ Ok 0 ∷ Ok 0 ∷ Ok 0 ∷ Ok 1 ∷ []
+    let s = run-all store-then-load (started store-then-load) early-steps in
+    (entry s 0 1 .done ≡ true)
+    × (entry s 0 1 .value ≡ 0)
+    × (answer (step-outcome store-then-load s (step 8 0 0 0)) ≡ Ok 1)
 
 -- A question without instructions closes finished at once.
 abbrev pub Empty-question-finishes-at-once : Type 0
