@@ -1,3 +1,6 @@
+pub mod CauseSearches
+pub mod CauseActions
+pub mod CauseNumbers
 pub mod Computed
 pub mod FiresAddress
 pub mod FiresFetch
