@@ -18,7 +18,7 @@ use Rattle.machine.specs.Fires.{buffer, Fires, step, fetched-entry}
 use Rattle.machine_laws.proofs.GoneActs.{not-refused, fires-as-gone}
 
 -- Guess 0, or guess 1 at a branch.
-guessed : (ins : Instruction) (g : ℕ) → (eqb g 0 || (eqb g 1 && branches ins)) ≡ true → (g ≡ 0) ⊎ ((g ≡ 1) × (branches ins ≡ true))
+pub guessed : (ins : Instruction) (g : ℕ) → (eqb g 0 || (eqb g 1 && branches ins)) ≡ true → (g ≡ 0) ⊎ ((g ≡ 1) × (branches ins ≡ true))
 guessed ins g e = elim (or-cases (eqb g 0) (eqb g 1 && branches ins) e) [
   | inl z ↦ inl (eqb-true g 0 z)
   | inr b ↦ let k = and-parts (eqb g 1) (branches ins) b in inr (eqb-true g 1 (k .0), k .1)

@@ -24,7 +24,7 @@ use Rattle.machine_laws.proofs.GoneLoad.{gone-load}
 use Rattle.machine_laws.proofs.GoneRules.{gone-arithmetic, gone-branch, gone-fence, gone-store-data, gone-store}
 
 -- The number of a rule.
-abbrev number : Rule → ℕ
+abbrev pub number : Rule → ℕ
 number rule.Fetch = 1
 number rule.Arithmetic = 2
 number rule.Branch = 3

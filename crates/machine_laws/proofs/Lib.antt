@@ -1,3 +1,7 @@
+pub mod CauseSteps
+pub mod CauseFetch
+pub mod FirstCauses
+pub mod CauseActs
 pub mod CauseSearches
 pub mod CauseActions
 pub mod CauseNumbers
