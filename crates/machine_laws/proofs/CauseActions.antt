@@ -27,9 +27,9 @@ use Rattle.rules.specs.declared.rule.Rule.{Rule}
 use Rattle.rules.specs.declared.rule.Rule.the-variants as rule
 use Rattle.search.specs.Search.{nearest, passes}
 use Rattle.machine.specs.State.{State}
-use Rattle.machine.specs.Fires.{buffer, entry, instruction, Ready, Nearest-open}
+use Rattle.machine.specs.Fires.{buffer, entry, instruction, Nearest-open}
 use Rattle.machine_laws.specs.Causes.{Not-ready}
-use Rattle.machine_laws.proofs.CauseNumbers.{Wants, Held, Store-held, branch-holds, unknown-holds, cell-holds, fence-holds, Fence-holds, Access-holds}
+use Rattle.machine_laws.proofs.CauseNumbers.{Wants, Held, branch-holds, unknown-holds, cell-holds, fence-holds, Fence-holds}
 use Rattle.machine_laws.proofs.CauseSearches.{fence-found, load-fence-found, store-found}
 use Rattle.machine_laws.proofs.GoneReady.{ready-means}
 use Rattle.machine_laws.proofs.GoneTests.{fence-free, load-free, none-open, nearest-open, store-free}

@@ -28,6 +28,7 @@ use Rattle.machine_laws.proofs.CauseNumbers.{Wants, Held, one-rule, present, w
 use Rattle.machine_laws.proofs.FirstCauses.{First, Judged}
 
 module _ (q : Litmus) (s : State) (st : Step) (r : Rule) (by : By q s st r) (acts : r ≢ rule.Fetch) (here : st .processor < length (s .cores)) where
+  -- The processor and the position of the step.
   abbrev p : ℕ
   p = st .processor
 
@@ -38,10 +39,11 @@ module _ (q : Litmus) (s : State) (st : Step) (r : Rule) (by : By q s st r) (act
   no-fetch : By q s st rule.Fetch → ⊥
   no-fetch b = acts (one-rule q s st r rule.Fetch by b)
 
-  -- It is not refused as a fetch.
+  -- It is not refused as a fetch at the end.
   not-at-the-end : Cause q s st 8 → ⊥
   not-at-the-end (Cause.fetch-at-the-end b h) = no-fetch b
 
+  -- It is not refused as a fetch into a full buffer.
   not-full : Cause q s st 9 → ⊥
   not-full (Cause.buffer-full b h) = no-fetch b
 
@@ -68,8 +70,11 @@ module _ (q : Litmus) (s : State) (st : Step) (r : Rule) (by : By q s st r) (act
 
   -- Refused for the position or the guess.
   misplaced : (ltb i (length (buffer s p)) && eqb (st .guess) 0) ≡ false → First q s st PositionOrGuessNotAllowed
-  misplaced x = (go (and-cases (ltb i (length (buffer s p))) (eqb (st .guess) 0) x), acts-below 10
-      (λ h c. omega arith) (λ h c. omega arith) (λ h c. omega arith) (λ h c. omega arith) (λ h c. omega arith))
+  misplaced x = (
+    go (and-cases (ltb i (length (buffer s p))) (eqb (st .guess) 0) x),
+    acts-below 10
+        (λ h c. omega arith) (λ h c. omega arith) (λ h c. omega arith) (λ h c. omega arith) (λ h c. omega arith),
+  )
     where
       go : (ltb i (length (buffer s p)) ≡ false) ⊎ (eqb (st .guess) 0 ≡ false) → Cause q s st 10
       go (inl e) = Cause.no-entry r by acts (ltb-false i (length (buffer s p)) e)
@@ -78,25 +83,37 @@ module _ (q : Litmus) (s : State) (st : Step) (r : Rule) (by : By q s st r) (act
   module _ (l : i < length (buffer s p)) (g : st .guess ≡ 0) where
     -- Refused for the kind.
     unsuited : suits r (instruction s p i) ≡ false → First q s st KindDoesNotSuitRule
-    unsuited y = (Cause.another-kind r by acts y, acts-below 11 (λ h. placed l g)
-        (λ h c. omega arith) (λ h c. omega arith) (λ h c. omega arith) (λ h c. omega arith))
+    unsuited y = (
+      Cause.another-kind r by acts y,
+      acts-below 11 (λ h. placed l g)
+          (λ h c. omega arith) (λ h c. omega arith) (λ h c. omega arith) (λ h c. omega arith),
+    )
 
     module _ (kind : suits r (instruction s p i) ≡ true) where
       -- Refused as made already.
       made-before : made r (entry s p i) ≡ true → First q s st StepAlreadyMade
-      made-before y = (Cause.already-made r by acts y, acts-below 12 (λ h. placed l g)
-          (λ h. suited kind) (λ h c. omega arith) (λ h c. omega arith) (λ h c. omega arith))
+      made-before y = (
+        Cause.already-made r by acts y,
+        acts-below 12 (λ h. placed l g)
+            (λ h. suited kind) (λ h c. omega arith) (λ h c. omega arith) (λ h c. omega arith),
+      )
 
       module _ (open-yet : made r (entry s p i) ≡ false) where
         -- Refused since something is wanting.
         wants-first : Wants s p i r → First q s st OperandWanting
-        wants-first w = (wants-cause q s st r by w, acts-below 13 (λ h. placed l g)
-            (λ h. suited kind) (λ h. unmade open-yet) (λ h c. omega arith) (λ h c. omega arith))
+        wants-first w = (
+          wants-cause q s st r by w,
+          acts-below 13 (λ h. placed l g)
+              (λ h. suited kind) (λ h. unmade open-yet) (λ h c. omega arith) (λ h c. omega arith),
+        )
 
         -- Refused as held back.
         held-first : (Wants s p i r → ⊥) → Held s p i r → First q s st HeldBack
-        held-first n x = (held-cause q s st r by x, acts-below 14 (λ h. placed l g)
-            (λ h. suited kind) (λ h. unmade open-yet) (λ h c. n (wanting q s st r by c)) (λ h c. omega arith))
+        held-first n x = (
+          held-cause q s st r by x,
+          acts-below 14 (λ h. placed l g)
+              (λ h. suited kind) (λ h. unmade open-yet) (λ h c. n (wanting q s st r by c)) (λ h c. omega arith),
+        )
 
         -- Nothing is wanting and nothing holds the step back: there is no cause.
         no-cause : (Wants s p i r → ⊥) → (Held s p i r → ⊥) → (k : ℕ) → Cause q s st k → ⊥

@@ -7,7 +7,7 @@ use native.Mathlib.Omega.{arith}
 use lib.Dec.{eqb, ltb}
 use lib.ListN.{length}
 use Rattle.std.specs.declared.result.Result.the-variants.{Ok, Err}
-use Rattle.std.proofs.shelf.Tests.{both-ways, and-parts, and-cases, or-cases, or-parts, ltb-true, ltb-false, eqb-true, eqb-false, cases-eq}
+use Rattle.std.proofs.shelf.Tests.{both-ways, and-parts, and-cases, or-parts, ltb-true, ltb-false, eqb-true, eqb-false, cases-eq}
 use Rattle.fields.specs.declared.refusal.Refusal.the-variants.{FetchAtEnd, BufferFull, PositionOrGuessNotAllowed}
 use Rattle.instructions.specs.declared.instruction.Instruction.{Instruction}
 use Rattle.instructions.specs.Kinds.{branches}
@@ -21,10 +21,11 @@ use Rattle.machine.specs.Steps.{fetched, fetch-outcome}
 use Rattle.machine.specs.Fires.{buffer, fetched-entry}
 use Rattle.machine_laws.specs.Causes.{By, Cause}
 use Rattle.machine_laws.proofs.CauseNumbers.{one-rule, present, wanting, holding, none-below}
-use Rattle.machine_laws.proofs.FirstCauses.{First, Judged}
+use Rattle.machine_laws.proofs.FirstCauses.{Judged}
 use Rattle.machine_laws.proofs.GoneFetch.{guessed}
 
 module _ (q : Litmus) (s : State) (st : Step) (by : By q s st rule.Fetch) (here : st .processor < length (s .cores)) where
+  -- The processor and the position of the step.
   abbrev p : ℕ
   p = st .processor
 
@@ -64,10 +65,11 @@ module _ (q : Litmus) (s : State) (st : Step) (by : By q s st rule.Fetch) (here 
   fits z g (Cause.no-entry r b n h) = no-act r b n
   fits z g (Cause.guess-off-a-fetch r b n h) = no-act r b n
 
-  -- It is not refused as another rule's step.
+  -- It is not refused for the kind of an entry.
   not-another-kind : Cause q s st 11 → ⊥
   not-another-kind (Cause.another-kind r b n h) = no-act r b n
 
+  -- It is not refused as made already.
   not-made : Cause q s st 12 → ⊥
   not-made (Cause.already-made r b n h) = no-act r b n
 

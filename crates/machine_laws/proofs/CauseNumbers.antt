@@ -1,22 +1,20 @@
 -- The causes of refusal by their numbers: what each says of a step whose rule is known.
-use mathlib.Core.Path.{_≡_, refl, sym, _∙_}
+use mathlib.Core.Path.{_≡_, refl, _∙_}
 use mathlib.Core.Bool.{true, false}
-use mathlib.Core.Logic.{_⊎_, inl, inr, _≢_}
-use Prim.Native.Nat.{ℕ, _<_, _≤_}
+use mathlib.Core.Logic.{_⊎_, inl, inr}
+use Prim.Native.Nat.{ℕ, _<_}
 use native.Mathlib.Omega.{arith}
 use lib.ListN.{length}
 use Rattle.std.specs.Options.{isSome}
 use Rattle.std.specs.declared.option.Option.the-variants.{Some, None}
-use Rattle.std.proofs.shelf.Tests.{both-ways}
 use Rattle.instructions.specs.declared.instruction.AccessType.{AccessType}
 use Rattle.instructions.specs.declared.instruction.AccessType.the-variants as access-type
 use Rattle.instructions.specs.Kinds.{stores, access, branches, of-type, fence-from, fence-to, first-operand, second-operand}
-use Rattle.question.specs.Litmus.{Litmus, code-at}
-use Rattle.rules.specs.Rules.{rule-of, suits, made}
+use Rattle.question.specs.Litmus.{Litmus}
 use Rattle.rules.specs.declared.rule.Rule.{Rule}
 use Rattle.rules.specs.declared.rule.Rule.the-variants as rule
 use Rattle.machine.specs.declared.step.Step.{Step}
-use Rattle.machine.specs.State.{State, core-at}
+use Rattle.machine.specs.State.{State}
 use Rattle.machine.specs.Fires.{buffer, entry, instruction, Open-to, Nearest-open}
 use Rattle.machine_laws.specs.Causes.{By, Cause, Not-ready, Some-older}
 
@@ -63,6 +61,7 @@ module _ (s : State) (p i : ℕ) where
   Held rule.Address = ⊥
 
 module _ (q : Litmus) (s : State) (st : Step) where
+  -- The processor and the position of the step.
   abbrev p : ℕ
   p = st .processor
 

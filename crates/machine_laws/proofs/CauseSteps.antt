@@ -2,14 +2,13 @@
 use mathlib.Core.Path.{_≡_, refl, ap, subst}
 use mathlib.Core.Bool.{Bool, true, false, cond}
 use mathlib.Core.Logic.{_≢_}
-use Prim.Native.Nat.{ℕ, _<_}
+use Prim.Native.Nat.{_<_}
 use native.Mathlib.Omega.{arith}
 use lib.Dec.{ltb}
 use lib.ListN.{length}
 use Rattle.std.specs.declared.option.Option.{Option}
 use Rattle.std.specs.declared.option.Option.the-variants.{Some, None}
 use Rattle.std.proofs.shelf.Tests.{ltb-true, ltb-false}
-use Rattle.fields.specs.declared.refusal.Refusal.{Refusal}
 use Rattle.fields.specs.declared.refusal.Refusal.the-variants.{RuleOrProcessorAbsent}
 use Rattle.question.specs.Litmus.{Litmus}
 use Rattle.rules.specs.Rules.{rule-of}
@@ -32,8 +31,11 @@ no-fetch r l e = let z : number r ≡ 1 = ap number e in omega arith
 module _ (q : Litmus) (s : State) (st : Step) where
   -- A cause of number 7 is the first.
   absent-first : Cause q s st 7 → First q s st RuleOrProcessorAbsent
-  absent-first c = (c, none-below q s st 7 (λ h u. omega arith) (λ h u. omega arith) (λ h u. omega arith) (λ h u. omega arith)
-      (λ h u. omega arith) (λ h u. omega arith) (λ h u. omega arith) (λ h u. omega arith))
+  absent-first c = (
+    c,
+    none-below q s st 7 (λ h u. omega arith) (λ h u. omega arith) (λ h u. omega arith) (λ h u. omega arith)
+        (λ h u. omega arith) (λ h u. omega arith) (λ h u. omega arith) (λ h u. omega arith),
+  )
 
   -- By the rule.
   ruled : st .processor < length (s .cores) → (r : Rule) → By q s st r → Judged q s st (by-rule q s r (st .processor) (st .position) (st .guess))

@@ -1,10 +1,3 @@
-pub mod CauseSteps
-pub mod CauseFetch
-pub mod FirstCauses
-pub mod CauseActs
-pub mod CauseSearches
-pub mod CauseActions
-pub mod CauseNumbers
 pub mod Computed
 pub mod FiresAddress
 pub mod FiresFetch
@@ -24,3 +17,10 @@ pub mod GoneLoad
 pub mod GoneAddress
 pub mod GoneFetch
 pub mod GoneFires
+pub mod CauseNumbers
+pub mod CauseSearches
+pub mod CauseActions
+pub mod FirstCauses
+pub mod CauseActs
+pub mod CauseFetch
+pub mod CauseSteps
