@@ -1,2 +1,4 @@
 // Vectors of fixed capacity.
+#![tactic(auto)]
+
 pub mod vector;

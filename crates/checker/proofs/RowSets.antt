@@ -1,13 +1,13 @@
 -- Lists of events are equal in at most one way, and so are source records.
 use Rattle.std.proofs.Common.{List}
-use base.Stored.{CodedSet, coded_list}
+use base.Stored.{Coded-set, coded_list}
 use Rattle.events.specs.contracts.event.Event as event
 use Rattle.events.specs.declared.event.Event.{Event}
 use Rattle.witness.specs.contracts.record.Source as source
 use Rattle.witness.specs.declared.record.Source.{Source}
 
 pub events_set : IsSet (List Event)
-events_set = CodedSet (coded_list (event.the_row).coded)
+events_set = Coded-set (coded_list (event.the_row).coded)
 
 pub source_set : IsSet Source
-source_set = CodedSet (source.the_row).coded
+source_set = Coded-set (source.the_row).coded

@@ -1,4 +1,6 @@
 // The checker of witnesses.
+#![tactic(auto)]
+
 pub mod check;
 mod evaluated;
 pub mod fixed;

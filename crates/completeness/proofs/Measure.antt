@@ -1,7 +1,7 @@
 -- How much a state has still to make known: every step of rules 2 to 8 makes it less.
 use Rattle.std.proofs.Common.{◌≡◌, ℕ, zero, suc, ◌+◌, ◌*◌, ◌<◌, ◌≤◌, Bool, true, false, not, ◌&&◌, List, [], ◌∷◌, length, get_or, take, set, is_some, Some, None, Option, refl, arith}
 use Rattle.std.proofs.lemmas.Bool.{true≢false, false≢true}
-use Rattle.instructions.specs.Effects.{result, address_sum, data_sum, next_place}
+use Rattle.instructions.specs.Effects.{arithmetic_result, address_sum, data_sum, next_place}
 use Rattle.instructions.specs.Kinds.{stores, access}
 use Rattle.memory.specs.Cells.{cell_at}
 use Rattle.memory.specs.declared.cell.Mark.{Mark}
@@ -109,7 +109,7 @@ pub left_falls : (q : Litmus) (s : State) (st : Step) (n : ℕ) (t : State) → 
 left_falls q s _ _ _ (Fires.fetch_taken p a b c d) h = absurd (h refl)
 left_falls q s _ _ _ (Fires.fetch p a b c) h = absurd (h refl)
 left_falls q s _ _ _ (Fires.arithmetic p i x y a b c d e) h =
-    left_changed s p i (only (done_with (entry s p i) (result (instruction s p i) x y))) a (done_with_less (entry s p i) (result (instruction s p i) x y) c)
+    left_changed s p i (only (done_with (entry s p i) (arithmetic_result (instruction s p i) x y))) a (done_with_less (entry s p i) (arithmetic_result (instruction s p i) x y) c)
 left_falls q s _ _ _ (Fires.branch_as_guessed p i x a b c d e) h =
     let n = next_place (instruction s p i) (entry s p i).place x in
     left_changed s p i (only (turned (entry s p i) n)) a (turned_less (entry s p i) n c)

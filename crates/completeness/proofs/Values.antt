@@ -2,7 +2,7 @@
 use Rattle.std.proofs.Common.{◌≡◌, ℕ, zero, suc, ◌<◌, ◌≤◌, true, cond, length, get_or, Some, Option, sym, refl, ap, ◌∙◌, subst, ap₂, inl, inr, arith}
 use Rattle.std.proofs.lemmas.List.{get_or_past}
 use Rattle.std.proofs.lemmas.Bool.{cases_lt, cond-true, cond-false}
-use Rattle.instructions.specs.Effects.{result, address_sum, data_sum, next_place}
+use Rattle.instructions.specs.Effects.{arithmetic_result, address_sum, data_sum, next_place}
 use Rattle.instructions.specs.Kinds.{loads, computes, first_operand, second_operand, writes}
 use Rattle.question.specs.Litmus.{Litmus, code_at, instruction_at}
 use Rattle.search.specs.Search.{nearest, passes, Nearest, NoneBelow}
@@ -57,16 +57,16 @@ module _ (q : Litmus) (w : Execution) (p i : ℕ) where
         (ap (λ (e : Event). e.datum) (path_event_is q w p i l))
 
     event_value : (event q w p i).value ≡ cond (loads (terms.instruction q w p i)) (source_at q w p i).value
-        (result (terms.instruction q w p i) (operand (events q w p) i (first_operand (terms.instruction q w p i))) (operand (events q w p) i (second_operand (terms.instruction q w p i))))
+        (arithmetic_result (terms.instruction q w p i) (operand (events q w p) i (first_operand (terms.instruction q w p i))) (operand (events q w p) i (second_operand (terms.instruction q w p i))))
     event_value =
-        subst (λ c. (event q w p i).value ≡ cond (loads c) (source_at q w p i).value (result c (operand (events q w p) i (first_operand c)) (operand (events q w p) i (second_operand c)))) (sym runs)
+        subst (λ c. (event q w p i).value ≡ cond (loads c) (source_at q w p i).value (arithmetic_result c (operand (events q w p) i (first_operand c)) (operand (events q w p) i (second_operand c)))) (sym runs)
         (ap (λ (e : Event). e.value) (path_event_is q w p i l))
 
     pub event_loaded : loads (terms.instruction q w p i) ≡ true → (event q w p i).value ≡ (source_at q w p i).value
     event_loaded h = event_value ∙ cond-true (loads (terms.instruction q w p i)) _ _ h
 
     pub event_result : computes (terms.instruction q w p i) ≡ true → (event q w p i).value
-        ≡ result (terms.instruction q w p i) (operand (events q w p) i (first_operand (terms.instruction q w p i))) (operand (events q w p) i (second_operand (terms.instruction q w p i)))
+        ≡ arithmetic_result (terms.instruction q w p i) (operand (events q w p) i (first_operand (terms.instruction q w p i))) (operand (events q w p) i (second_operand (terms.instruction q w p i)))
     event_result h = event_value ∙ cond-false (loads (terms.instruction q w p i)) _ _ (computes_quiet (terms.instruction q w p i) h).no_load
 
   -- The search for a register's writer looks at the instructions.
@@ -123,8 +123,8 @@ module _ (q : Litmus) (w : Execution) (t : ℕ) (s : State) (R : Related q w t s
         let x : f.first ≡ operand (events q w p) j (first_operand (terms.instruction q w p j)) = operand_from j (omega arith) below f.first_ready ∙ ap (λ c. operand (events q w p) j (first_operand c)) e in
         let y : f.second ≡ operand (events q w p) j (second_operand (terms.instruction q w p j)) = operand_from j (omega arith) below f.second_ready ∙ ap (λ c. operand (events q w p) j (second_operand c)) e in
         f.value (ap computes e ∙ c)
-        ∙ ap₂ (result (instruction s p j)) x y
-        ∙ ap (λ c. result c (operand (events q w p) j (first_operand (terms.instruction q w p j))) (operand (events q w p) j (second_operand (terms.instruction q w p j)))) e
+        ∙ ap₂ (arithmetic_result (instruction s p j)) x y
+        ∙ ap (λ c. arithmetic_result c (operand (events q w p) j (first_operand (terms.instruction q w p j))) (operand (events q w p) j (second_operand (terms.instruction q w p j)))) e
         ∙ sym (event_result q w p j l c))
   ]
 

@@ -1,4 +1,6 @@
 // The program: lists questions and witnesses, runs steps, and compares files of cases.
+#![tactic(auto)]
+
 use commands::Command;
 use commands::check::Check;
 use commands::help::Help;

@@ -1,6 +1,6 @@
 -- The events of a path: what each instruction that was run comes to, from those before it and the values of the loads.
 use Rattle.std.specs.Prelude.{ℕ, zero, suc, ◌%◌, Bool, cond, List, [], ◌∷◌, ◌++◌, length, Some, None, Option, slice_index, slice_index_or}
-use Rattle.instructions.specs.Effects.{result, address_sum, data_sum, next_place}
+use Rattle.instructions.specs.Effects.{arithmetic_result, address_sum, data_sum, next_place}
 use Rattle.instructions.specs.Kinds.{loads, first_operand, second_operand, writes}
 use Rattle.instructions.specs.declared.instruction.Instruction.{Instruction}
 use Rattle.instructions.specs.declared.instruction.Instruction.TheVariants.{Add}
@@ -40,7 +40,7 @@ event_of i place stated x y = record {
   place = place;
   instruction = i;
   next = next_place i place x;
-  value = cond (loads i) stated (result i x y);
+  value = cond (loads i) stated (arithmetic_result i x y);
   address = address_sum i x;
   datum = data_sum i y;
 }

@@ -1,4 +1,6 @@
 // The events of a path.
+#![tactic(auto)]
+
 pub mod evaluate;
 pub mod event;
 pub mod loads;

@@ -1,4 +1,6 @@
 // Cases of the formats: what is read, what is refused and why, and what is listed and written.
+#![tactic(auto)]
+
 #[cfg(test)]
 mod instructions;
 #[cfg(test)]

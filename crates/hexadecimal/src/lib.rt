@@ -1,3 +1,5 @@
 // Bytes written in hexadecimal.
+#![tactic(auto)]
+
 pub mod decode;
 pub mod encode;

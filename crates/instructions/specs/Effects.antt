@@ -4,13 +4,13 @@ use Rattle.instructions.specs.declared.instruction.Instruction.{Instruction}
 use Rattle.instructions.specs.declared.instruction.Instruction.TheVariants.{Add, Subtract, Load, Store, Branch, Fence}
 
 -- The result of an addition or a subtraction, modulo 65,536.
-abbrev pub result : Instruction → ℕ → ℕ → ℕ
-result (Add d s1 s2 k) x y = (x + y + k) % 65536
-result (Subtract d s1 s2 k) x y = (x + (65536 - y) + k) % 65536
-result (Load d s1 k) x y = 0
-result (Store s1 s2 k j) x y = 0
-result (Branch s1 k j) x y = 0
-result (Fence a b) x y = 0
+abbrev pub arithmetic_result : Instruction → ℕ → ℕ → ℕ
+arithmetic_result (Add d s1 s2 k) x y = (x + y + k) % 65536
+arithmetic_result (Subtract d s1 s2 k) x y = (x + (65536 - y) + k) % 65536
+arithmetic_result (Load d s1 k) x y = 0
+arithmetic_result (Store s1 s2 k j) x y = 0
+arithmetic_result (Branch s1 k j) x y = 0
+arithmetic_result (Fence a b) x y = 0
 
 -- The address of an access, before it is reduced modulo 16.
 abbrev pub address_sum : Instruction → ℕ → ℕ

@@ -1,2 +1,4 @@
 // Instructions: what they do and what they compute.
+#![tactic(auto)]
+
 pub mod instruction;

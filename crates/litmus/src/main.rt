@@ -1,4 +1,6 @@
 // Tries an outcome of a question in every memory order and with every source of each load.
+#![tactic(auto)]
+
 use failure::Failure;
 use std::{env, fs};
 use tests::LitmusTest;

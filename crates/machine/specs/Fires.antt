@@ -3,7 +3,7 @@ use Rattle.std.specs.Prelude.{◌≡◌, ℕ, ◌+◌, ◌-◌, ◌<◌, Bool, t
 use Rattle.instructions.specs.declared.instruction.AccessType.{AccessType}
 use Rattle.instructions.specs.declared.instruction.AccessType.TheVariants as access_type
 use Rattle.instructions.specs.declared.instruction.Instruction.{Instruction}
-use Rattle.instructions.specs.Effects.{result, address_sum, data_sum, next_place, guessed_place}
+use Rattle.instructions.specs.Effects.{arithmetic_result, address_sum, data_sum, next_place, guessed_place}
 use Rattle.instructions.specs.Kinds.{loads, stores, access, computes, branches, fences, of_type, fence_from, fence_to, first_operand, second_operand, writes}
 use Rattle.memory.specs.Cells.{cell_at}
 use Rattle.memory.specs.declared.cell.Mark.TheVariants as mark
@@ -85,7 +85,7 @@ pub data Fires (q : Litmus) (s : State) : Step → ℕ → State → Type 0 wher
   -- 2: the operands are ready; the result, done.
   arithmetic : (p i x y : ℕ) → Stands s p i → computes (instruction s p i) ≡ true → (entry s p i).done ≡ false →
       Ready s p i (first_operand (instruction s p i)) x → Ready s p i (second_operand (instruction s p i)) y →
-      Fires q s (step 2 p i 0) 0 (changed s p i (only (done_with (entry s p i) (result (instruction s p i) x y))))
+      Fires q s (step 2 p i 0) 0 (changed s p i (only (done_with (entry s p i) (arithmetic_result (instruction s p i) x y))))
   -- 3, the guess was right: the operand is ready; done.
   branch_as_guessed : (p i x : ℕ) → Stands s p i → branches (instruction s p i) ≡ true → (entry s p i).done ≡ false →
       Ready s p i (first_operand (instruction s p i)) x → (entry s p i).next ≡ next_place (instruction s p i) (entry s p i).place x →

@@ -1,4 +1,6 @@
 // Runs of the machine: open ones take steps, closed ones give results.
+#![tactic(auto)]
+
 pub mod closed;
 pub mod open;
 pub mod order;

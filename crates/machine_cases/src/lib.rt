@@ -1,4 +1,6 @@
 // Cases of the machine: what steps answer, why they are refused, and what closed runs answer.
+#![tactic(auto)]
+
 use machine::open::OpenRun;
 use machine::step::Step;
 use memory::table::Table;

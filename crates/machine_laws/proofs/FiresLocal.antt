@@ -2,7 +2,7 @@
 use Rattle.std.proofs.Common.{◌≡◌, ℕ, ◌+◌, ◌-◌, true, false, length, is_some, Some, refl, ◌∙◌, arith}
 use Rattle.std.proofs.lemmas.Bool.{eq-eqb, ne_eqb}
 use Rattle.instructions.specs.declared.instruction.AccessType.{AccessType}
-use Rattle.instructions.specs.Effects.{result, data_sum, next_place}
+use Rattle.instructions.specs.Effects.{arithmetic_result, data_sum, next_place}
 use Rattle.instructions.specs.Kinds.{stores, computes, branches, fences, of_type, fence_from, first_operand, second_operand}
 use Rattle.question.specs.Litmus.{Litmus}
 use Rattle.rules.specs.Changes.{only}
@@ -22,7 +22,7 @@ module _ (q : Litmus) (s : State) (p i : ℕ) (stands : Stands s p i) where
   -- Rule 2.
   pub arithmetic_goes : (x y : ℕ) → computes (instruction s p i) ≡ true → (entry s p i).done ≡ false →
       Ready s p i (first_operand (instruction s p i)) x → Ready s p i (second_operand (instruction s p i)) y →
-      step_outcome q s (step 2 p i 0) ≡ went 0 (changed s p i (only (done_with (entry s p i) (result (instruction s p i) x y))))
+      step_outcome q s (step 2 p i 0) ≡ went 0 (changed s p i (only (done_with (entry s p i) (arithmetic_result (instruction s p i) x y))))
   arithmetic_goes x y k d rx ry =
       stepped q s 2 rule.Arithmetic p i refl stands k d
       ∙ rw (ready_is s p i (omega arith) rx, ready_is s p i (omega arith) ry) refl

@@ -1,3 +1,5 @@
 // Laws of the machine: each function carries theorems in its contract.
+#![tactic(auto)]
+
 pub mod refusals;
 pub mod rules;

@@ -1,4 +1,6 @@
 // Marking an answer to a question.
+#![tactic(auto)]
+
 pub mod answer;
 pub mod grade;
 pub mod mark;

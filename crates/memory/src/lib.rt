@@ -1,4 +1,6 @@
 // Memories of sixteen cells.
+#![tactic(auto)]
+
 pub mod cell;
 pub mod cell_list;
 pub mod memory;

@@ -1,4 +1,6 @@
 // Ordering rules: which events of a path are kept in their order.
+#![tactic(auto)]
+
 pub mod constraints;
 mod dependencies;
 pub mod gam;

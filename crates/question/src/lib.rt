@@ -1,4 +1,6 @@
 // Questions: programs of one to four processors over sixteen cells, read from bytes.
+#![tactic(auto)]
+
 pub mod code;
 pub mod decode;
 pub mod draft;

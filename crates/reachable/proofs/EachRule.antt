@@ -1,7 +1,7 @@
 -- Each rule, as it fires, does what all rules have in common.
 use Rattle.std.proofs.Common.{◌≡◌, ℕ, ◌+◌, ◌<◌, ◌≤◌, Bool, true, false, length, is_some, Some, None, sym, refl, ap, ◌∙◌, inl, inr, arith}
 use Rattle.std.proofs.lemmas.Bool.{both_ways, cases_Bool}
-use Rattle.instructions.specs.Effects.{result, address_sum, data_sum, next_place}
+use Rattle.instructions.specs.Effects.{arithmetic_result, address_sum, data_sum, next_place}
 use Rattle.instructions.specs.Kinds.{loads, stores, access, computes, branches, fences, first_operand, second_operand}
 use Rattle.machine.specs.declared.step.Step.{Step}
 use Rattle.machine.specs.Fires.{buffer, entry, instruction, Stands, Ready, fetched_entry, Fires}
@@ -93,9 +93,9 @@ module _ (q : Litmus) (s : State) (inv : Invariant q s) (p i : ℕ) (stands : St
 
   -- Rule 2.
   arithmetic_fired : (x y : ℕ) → computes e.instruction ≡ true → e.done ≡ false → Ready s p i (first_operand e.instruction) x → Ready s p i (second_operand e.instruction) y →
-      Ruled q s (changed s p i (only (done_with e (result e.instruction x y))))
+      Ruled q s (changed s p i (only (done_with e (arithmetic_result e.instruction x y))))
   arithmetic_fired x y h w u v =
-      let f : Entry = done_with e (result e.instruction x y) in
+      let f : Entry = done_with e (arithmetic_result e.instruction x y) in
       ruled q s _ p i _ f (fired_quiet q s inv p i stands f
       (kept w f refl refl refl refl refl (λ b. refl) (computed_finished q s p i e k h x y u v)) w (onward w f refl refl refl refl)
       refl (not_access f (computes_quiet e.instruction h)))

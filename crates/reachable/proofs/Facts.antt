@@ -1,6 +1,6 @@
 -- The invariant in the forms in which proofs use it: values of ready operands, and what a done access knows.
 use Rattle.std.proofs.Common.{◌≡◌, ℕ, ◌+◌, ◌<◌, ◌≤◌, true, length, Some, Option, sym, ap, ◌∙◌, ap₂, arith}
-use Rattle.instructions.specs.Effects.{result, address_sum, data_sum, next_place}
+use Rattle.instructions.specs.Effects.{arithmetic_result, address_sum, data_sum, next_place}
 use Rattle.instructions.specs.Kinds.{stores, computes, first_operand, second_operand}
 use Rattle.machine.specs.Fires.{buffer, entry, instruction, Ready}
 use Rattle.machine.specs.State.{State, core_at}
@@ -62,10 +62,10 @@ module _ (q : Litmus) (s : State) (inv : Invariant q s) where
 
       -- A done computation has its result.
       pub value_is : computes (instruction s p i) ≡ true → (x y : ℕ) → Ready s p i (first_operand (instruction s p i)) x → Ready s p i (second_operand (instruction s p i)) y →
-          (entry s p i).value ≡ result (instruction s p i) x y
+          (entry s p i).value ≡ arithmetic_result (instruction s p i) x y
       value_is h x y u v =
           let w = (k.finished done).worked_out in
-          w.value h ∙ ap₂ (result (instruction s p i)) (ready_once s p i w.first x _ (omega arith) w.first_ready u) (ready_once s p i w.second y _ (omega arith) w.second_ready v)
+          w.value h ∙ ap₂ (arithmetic_result (instruction s p i)) (ready_once s p i w.first x _ (omega arith) w.first_ready u) (ready_once s p i w.second y _ (omega arith) w.second_ready v)
 
       -- A done store has its data.
       pub done_has_data : stores (instruction s p i) ≡ true → (d : ℕ) × ((entry s p i).datum ≡ Some d)

@@ -1,7 +1,7 @@
 -- An entry that rule 2, 3, 4, 5 or 7 leaves done is finished: it is worked out, and what it waits for has happened.
 use Rattle.std.proofs.Common.{◌≡◌, ℕ, true, false, is_some, Some, None, Option, sym, refl, ◌∙◌, subst, inl, inr}
 use Rattle.std.proofs.lemmas.Bool.{both_ways, cases_Bool}
-use Rattle.instructions.specs.Effects.{result, next_place}
+use Rattle.instructions.specs.Effects.{arithmetic_result, next_place}
 use Rattle.instructions.specs.Kinds.{loads, stores, access, computes, branches, fences, fence_from, fence_to, first_operand, second_operand}
 use Rattle.instructions.specs.declared.instruction.AccessType.TheVariants as access_type
 use Rattle.machine.specs.Fires.{entry, Older, Ready, OpenTo}
@@ -41,7 +41,7 @@ module _ (q : Litmus) (s : State) (p i : ℕ) (e : Entry) (k : EntryKept q s p i
 
   -- Rule 2.
   pub computed_finished : computes e.instruction ≡ true → (x y : ℕ) → Ready s p i (first_operand e.instruction) x → Ready s p i (second_operand e.instruction) y →
-      Finished s p i (done_with e (result e.instruction x y))
+      Finished s p i (done_with e (arithmetic_result e.instruction x y))
   computed_finished h x y u v = quiet_finished _ (computes_quiet e.instruction h) (record {
     first = x;
     second = y;

@@ -2,7 +2,7 @@
 use Rattle.std.specs.Prelude.{◌≡◌, ℕ, ◌+◌, ◌<◌, Bool, true, false, length, is_some, Some}
 use Rattle.instructions.specs.declared.instruction.AccessType.{AccessType}
 use Rattle.instructions.specs.declared.instruction.AccessType.TheVariants as access_type
-use Rattle.instructions.specs.Effects.{result, address_sum, data_sum, next_place, guessed_place}
+use Rattle.instructions.specs.Effects.{arithmetic_result, address_sum, data_sum, next_place, guessed_place}
 use Rattle.instructions.specs.Kinds.{loads, stores, access, computes, branches, of_type, fence_from, fence_to, first_operand, second_operand}
 use Rattle.machine.specs.Fires.{Older, Ready}
 use Rattle.machine.specs.State.{State}
@@ -43,7 +43,7 @@ pub record WorkedOut (s : State) (p i : ℕ) (e : Entry) : Type 0 where
   pub second : ℕ
   pub first_ready : Ready s p i (first_operand e.instruction) first
   pub second_ready : Ready s p i (second_operand e.instruction) second
-  pub value : computes e.instruction ≡ true → e.value ≡ result e.instruction first second
+  pub value : computes e.instruction ≡ true → e.value ≡ arithmetic_result e.instruction first second
   pub next : e.next ≡ next_place e.instruction e.place first
 
 -- All older accesses of the fence's first type are done.

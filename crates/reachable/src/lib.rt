@@ -1,4 +1,6 @@
 // Laws of the states that runs reach: each function carries a theorem in its contract.
+#![tactic(auto)]
+
 ghost use Rattle.reachable.specs.Laws.{QuestionsAreChecked, StartedKeeps, FiresKeeps, EveryReachableStateKeepsTheInvariant, EntriesGoOnward, DoneStoresStay, OrderNeverCut, OrderGoesOn, FinishedRunsAreDone};
 
 /// Every question keeps what the laws below ask of its litmus test.

@@ -1,4 +1,6 @@
 // The rebuilder: the steps that lead to an accepted witness.
+#![tactic(auto)]
+
 mod accesses;
 mod fetches;
 pub mod laws;

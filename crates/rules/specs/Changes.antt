@@ -5,7 +5,7 @@ use Rattle.fields.specs.declared.refusal.Refusal.TheVariants.{OperandWanting, He
 use Rattle.fields.specs.Rows.{then}
 use Rattle.memory.specs.declared.cell.Mark.{Mark}
 use Rattle.memory.specs.declared.cell.Mark.TheVariants as mark
-use Rattle.instructions.specs.Effects.{result, address_sum, data_sum, next_place}
+use Rattle.instructions.specs.Effects.{arithmetic_result, address_sum, data_sum, next_place}
 use Rattle.instructions.specs.Kinds.{loads, stores, first_operand, second_operand}
 use Rattle.search.specs.Search.{nearest, first, passes}
 use Rattle.rules.specs.declared.change.Action.{Action}
@@ -48,7 +48,7 @@ module _ (es : List Entry) (i : ℕ) where
 
   -- Rule 2: the operands are ready; the result, done.
   abbrev pub arithmetic : Result Change Refusal
-  arithmetic = then first_value (λ x. then second_value (λ y. Ok (only (done_with (at es i) (result (at es i).instruction x y)))))
+  arithmetic = then first_value (λ x. then second_value (λ y. Ok (only (done_with (at es i) (arithmetic_result (at es i).instruction x y)))))
 
   -- Rule 3: what goes where the true next place is not the guessed one: everything younger.
   abbrev pub branch_cut : ℕ → Option Cut

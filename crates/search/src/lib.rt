@@ -1,4 +1,6 @@
 // The nearest earlier match and the first later match in a slice, once for every element and every key.
+#![tactic(auto)]
+
 ghost use Rattle.std.specs.Prelude.{◌≡◌, ◌-◌, ◌<◌, Bool, length, IfSome};
 ghost use Rattle.search.specs.Search.{nearest, first, passes, NearestIsFound, FirstIsFound};
 

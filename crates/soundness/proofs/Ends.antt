@@ -1,6 +1,6 @@
 -- What holds of a finished world: the axioms on buffers as functions of the position.
 use Rattle.std.proofs.Common.{◌≡◌, ℕ, suc, ◌<◌, true, false, ◌⊎◌, List, Some}
-use Rattle.instructions.specs.Effects.{result, address_sum, data_sum, next_place}
+use Rattle.instructions.specs.Effects.{arithmetic_result, address_sum, data_sum, next_place}
 use Rattle.instructions.specs.Kinds.{loads, stores, access, computes, branches}
 use Rattle.instructions.specs.declared.instruction.Instruction.{Instruction}
 use Rattle.memory.specs.declared.cell.Mark.{Mark}
@@ -28,7 +28,7 @@ pub record Path (code : ℕ → Instruction) (end : ℕ) (x : Row) : Type 0 wher
   pub coded_at : (k : ℕ) → k < x.size → x.instruction k ≡ code (x.place k)
   pub goes : (k : ℕ) → k < x.size → branches (x.instruction k) ≡ false → (v : ℕ) → x.place (suc k) ≡ next_place (x.instruction k) (x.place k) v
   pub turns : (k : ℕ) → k < x.size → 0 < x.time k → x.place (suc k) ≡ next_place (x.instruction k) (x.place k) (first_value x k)
-  pub computed : (k : ℕ) → k < x.size → 0 < x.time k → computes (x.instruction k) ≡ true → x.value k ≡ result (x.instruction k) (first_value x k) (second_value x k)
+  pub computed : (k : ℕ) → k < x.size → 0 < x.time k → computes (x.instruction k) ≡ true → x.value k ≡ arithmetic_result (x.instruction k) (first_value x k) (second_value x k)
   pub addressed : (k a : ℕ) → k < x.size → x.address k ≡ Some a → a ≡ address_sum (x.instruction k) (first_value x k)
   pub supplied : (k d : ℕ) → k < x.size → x.datum k ≡ Some d → d ≡ data_sum (x.instruction k) (second_value x k)
 

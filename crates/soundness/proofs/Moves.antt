@@ -1,6 +1,6 @@
 -- The rules on buffers as functions of the position: guard and action of each, after the machine's own.
 use Rattle.std.proofs.Common.{◌≡◌, ℕ, suc, ◌%◌, ◌<◌, ◌≤◌, Bool, true, false, ◌≢◌, ◌⊎◌, List, [], ◌∷◌, ◌++◌, Some, None, Option}
-use Rattle.instructions.specs.Effects.{result, address_sum, data_sum, next_place}
+use Rattle.instructions.specs.Effects.{arithmetic_result, address_sum, data_sum, next_place}
 use Rattle.instructions.specs.Kinds.{loads, stores, access, computes, branches, first_operand, second_operand}
 use Rattle.instructions.specs.declared.instruction.Instruction.{Instruction}
 use Rattle.memory.specs.declared.cell.Mark.{Mark}
@@ -64,7 +64,7 @@ pub record Plain (x : Row) (i c n' : ℕ) (P' T' V' : ℕ → ℕ) : Type 0 wher
   pub fence : FencesDone x i
   pub now : Upd x.time T' i c
   pub others : (j : ℕ) → j ≢ i → V' j ≡ x.value j
-  pub comes_to : computes (x.instruction i) ≡ true → V' i ≡ result (x.instruction i) (first_value x i) (second_value x i)
+  pub comes_to : computes (x.instruction i) ≡ true → V' i ≡ arithmetic_result (x.instruction i) (first_value x i) (second_value x i)
   pub next : branches (x.instruction i) ≡ true → P' (suc i) ≡ next_place (x.instruction i) (x.place i) (first_value x i)
   pub turned : Turned x i n' P'
 

@@ -5,7 +5,7 @@ use Rattle.instructions.specs.Kinds.{access, branches, first_operand, second_ope
 use Rattle.instructions.specs.declared.instruction.Instruction.{Instruction}
 use Rattle.memory.specs.declared.cell.Mark.{Mark}
 use Rattle.ordering.specs.Constraints.{Feeds}
-use Rattle.instructions.specs.Effects.{result, address_sum, data_sum, next_place}
+use Rattle.instructions.specs.Effects.{arithmetic_result, address_sum, data_sum, next_place}
 use Rattle.instructions.specs.Kinds.{computes, writes}
 use Rattle.search.specs.Search.{Sought}
 use Rattle.search.proofs.Searches.{nearest_found, nearest_same}
@@ -73,7 +73,7 @@ module _ (code : ℕ → Instruction) (end : ℕ) (x : Row) (c i n' : ℕ) (P' T
   here : (o : Option ℕ) → operand ins V' o i ≡ operand ins x.value o i
   here o = operand_same ins (known_cells (cell x)) x.value V' o i (λ j f. others j (λ e. omega (arith, f.writer.below)))
 
-  pub path_done : (computes (ins i) ≡ true → V' i ≡ result (ins i) (first_value x i) (second_value x i)) → P' (suc i) ≡ next_place (ins i) (x.place i) (first_value x i) → Path code end done_row
+  pub path_done : (computes (ins i) ≡ true → V' i ≡ arithmetic_result (ins i) (first_value x i) (second_value x i)) → P' (suc i) ≡ next_place (ins i) (x.place i) (first_value x i) → Path code end done_row
   path_done vi ni = record {
     from = places 0 (omega arith) ∙ h.from;
     inside = λ k kn. omega (arith, places k kn, h.inside k (wide k kn));
@@ -85,9 +85,9 @@ module _ (code : ℕ → Instruction) (end : ℕ) (x : Row) (c i n' : ℕ) (P' T
           nexts k kn (inl e.0) ∙ h.turns k (wide k kn) d' ∙ ap (λ z. next_place (ins k) z (first_value x k)) (sym (places k kn)) ∙ ap (next_place (ins k) (P' k)) (sym (first_done k kn d')))
     ];
     computed = λ k kn d y. elim (u k) [
-      | inl e ↦ rw e.0 (vi (rw e.0 at y) ∙ ap (λ z. result (ins i) z (second_value x i)) (sym (here (first_operand (ins i)))) ∙ ap (result (ins i) (first_value done_row i)) (sym (here (second_operand (ins i)))))
+      | inl e ↦ rw e.0 (vi (rw e.0 at y) ∙ ap (λ z. arithmetic_result (ins i) z (second_value x i)) (sym (here (first_operand (ins i)))) ∙ ap (arithmetic_result (ins i) (first_value done_row i)) (sym (here (second_operand (ins i)))))
       | inr e ↦ (let d' : 0 < x.time k = omega arith in
-          others k e.0 ∙ h.computed k (wide k kn) d' y ∙ ap (λ z. result (ins k) z (second_value x k)) (sym (first_done k kn d')) ∙ ap (result (ins k) (first_value done_row k)) (sym (second_done k kn d')))
+          others k e.0 ∙ h.computed k (wide k kn) d' y ∙ ap (λ z. arithmetic_result (ins k) z (second_value x k)) (sym (first_done k kn d')) ∙ ap (arithmetic_result (ins k) (first_value done_row k)) (sym (second_done k kn d')))
     ];
     addressed = λ k a kn e. h.addressed k a (wide k kn) e ∙ ap (address_sum (ins k)) (sym (first_known k kn (omega (arith, celled_some (x.address k) a e))));
     supplied = λ k d kn e. h.supplied k d (wide k kn) e ∙ ap (data_sum (ins k)) (sym (second_known k kn (omega (arith, coded_some (x.datum k) d e))));

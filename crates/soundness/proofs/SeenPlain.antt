@@ -1,7 +1,7 @@
 -- Rules 2, 3 and 4 of a state that a world shows are steps of the world.
 use Rattle.std.proofs.Common.{◌≡◌, ℕ, suc, ◌+◌, ◌<◌, ◌≤◌, true, false, ltb, ◌≢◌, length, Some, sym, refl, ap, ◌∙◌, ap₂, inl, inr, arith}
 use Rattle.std.proofs.lemmas.Bool.{both_ways, lt-ltb, cases_lt}
-use Rattle.instructions.specs.Effects.{result, next_place}
+use Rattle.instructions.specs.Effects.{arithmetic_result, next_place}
 use Rattle.instructions.specs.Kinds.{access, computes, branches, fences, of_type, fence_from, first_operand, second_operand}
 use Rattle.instructions.specs.declared.instruction.AccessType.{AccessType}
 use Rattle.machine.specs.Fires.{buffer, entry, instruction, Stands, Older, Ready}
@@ -60,7 +60,7 @@ module _ (q : Litmus) (s : State) (inv : Invariant q s) (w : World) (seen : Seen
   -- Both operands are ready, the fences are done, and this is no access.
   module _ (e : Entry) (same : DoneOf (entry s p i) e) (quiet : access (instruction s p i) ≡ true → ⊥) (a b : ℕ)
       (first : Ready s p i (first_operand (instruction s p i)) a) (second : Ready s p i (second_operand (instruction s p i)) b)
-      (fence : FencesDone x i) (comes_to : computes (instruction s p i) ≡ true → e.value ≡ result (instruction s p i) a b) where
+      (fence : FencesDone x i) (comes_to : computes (instruction s p i) ≡ true → e.value ≡ arithmetic_result (instruction s p i) a b) where
     abbrev T' : ℕ → ℕ
     T' = put_at x.time i w.clock
 
@@ -84,8 +84,8 @@ module _ (q : Litmus) (s : State) (inv : Invariant q s) (w : World) (seen : Seen
       comes_to = λ h.
           put_here x.value i e.value i refl
           ∙ comes_to (ap computes (sym ins_is) ∙ h)
-          ∙ ap₂ (result (instruction s p i)) (sym (first_shown s p x z i l first)) (sym (second_shown s p x z i l second))
-          ∙ ap (λ c. result c (first_value x i) (second_value x i)) (sym ins_is);
+          ∙ ap₂ (arithmetic_result (instruction s p i)) (sym (first_shown s p x z i l first)) (sym (second_shown s p x z i l second))
+          ∙ ap (λ c. arithmetic_result c (first_value x i) (second_value x i)) (sym ins_is);
       next = λ h.
           next (ap branches (sym ins_is) ∙ h)
           ∙ ap (next_place (instruction s p i) (entry s p i).place) (sym (first_shown s p x z i l first))
@@ -202,9 +202,9 @@ module _ (q : Litmus) (s : State) (inv : Invariant q s) (w : World) (seen : Seen
   -- Rule 2.
   pub arithmetic_follows : (a b : ℕ) → computes (instruction s p i) ≡ true →
       Ready s p i (first_operand (instruction s p i)) a → Ready s p i (second_operand (instruction s p i)) b →
-      Follows q w (changed s p i (only (done_with (entry s p i) (result (instruction s p i) a b))))
+      Follows q w (changed s p i (only (done_with (entry s p i) (arithmetic_result (instruction s p i) a b))))
   arithmetic_follows a b h u v =
-      whole_follows (done_with (entry s p i) (result (instruction s p i) a b)) (done_of (result (instruction s p i) a b)) quiet a b u v
+      whole_follows (done_with (entry s p i) (arithmetic_result (instruction s p i) a b)) (done_of (arithmetic_result (instruction s p i) a b)) quiet a b u v
       (no_fences (λ X. computes_no_fence X (instruction s p i) h) quiet) (λ k. refl)
       (λ k. absurd (both_ways (branches (instruction s p i)) (computes_no_branch (instruction s p i) h) k))
     where
@@ -219,7 +219,7 @@ module _ (q : Litmus) (s : State) (inv : Invariant q s) (w : World) (seen : Seen
     branch_fences : FencesDone x i
     branch_fences = no_fences (λ X. branches_no_fence X (instruction s p i) h) (branch_no_access (instruction s p i) h)
 
-    no_result : (v : ℕ) → computes (instruction s p i) ≡ true → v ≡ result (instruction s p i) a 0
+    no_result : (v : ℕ) → computes (instruction s p i) ≡ true → v ≡ arithmetic_result (instruction s p i) a 0
     no_result v k = absurd (both_ways (computes (instruction s p i)) (branches_compute_nothing (instruction s p i) h) k)
 
     pub guessed_follows : (entry s p i).next ≡ true_place → Follows q w (changed s p i (only (turned (entry s p i) true_place)))

@@ -1,7 +1,7 @@
 -- Where every entry is done, the events of the witness are the entries: place, instruction, next place, value, address and data.
 use Rattle.std.proofs.Common.{◌≡◌, ℕ, zero, suc, ◌<◌, ◌≤◌, true, false, ◌⊎◌, List, length, Some, None, Option, sym, refl, ap, ◌∙◌, ap₂, inl, inr, arith}
 use Rattle.std.proofs.lemmas.Bool.{cond-true, cond-false}
-use Rattle.instructions.specs.Effects.{result, address_sum, data_sum, next_place}
+use Rattle.instructions.specs.Effects.{arithmetic_result, address_sum, data_sum, next_place}
 use Rattle.instructions.specs.Kinds.{loads, computes, first_operand, second_operand, writes}
 use Rattle.instructions.specs.declared.instruction.Instruction.{Instruction}
 use Rattle.instructions.specs.declared.instruction.Instruction.TheVariants.{Add, Subtract, Load, Store, Branch, Fence}
@@ -100,7 +100,7 @@ module _ (q : Litmus) (s : State) (inv : Invariant q s) (done : AllDone s) (p : 
   agrees_next i l below r h = ap (λ (e : Event). e.value) (event_run i l) ∙ elim (writer_kind (instruction s p i) r h) [
     | inl c ↦ cond-true _ _ _ c ∙ ap (λ (x : _). x.value) (source_is q s inv p i l c) ∙ record_value (entry s p i).mark (entry s p i).value
     | inr c ↦ cond-false _ _ _ c.0
-        ∙ ap₂ (result (instruction s p i)) (operand_agrees i (omega arith) below (worked i l).first_ready) (operand_agrees i (omega arith) below (worked i l).second_ready)
+        ∙ ap₂ (arithmetic_result (instruction s p i)) (operand_agrees i (omega arith) below (worked i l).first_ready) (operand_agrees i (omega arith) below (worked i l).second_ready)
         ∙ sym ((worked i l).value c.1)
   ]
 

@@ -1,4 +1,6 @@
 // Soundness: every finished run's witness satisfies the axioms of GAM. Each function carries a theorem in its contract.
+#![tactic(auto)]
+
 ghost use Rattle.soundness.specs.Laws.{FinishedRunsSatisfyTheAxioms, FinishedRunsOfQuestionsSatisfyTheAxioms, BranchToItselfNeverFinishes};
 ghost use Rattle.soundness.specs.Worked.{StoreThenLoadSatisfiesTheAxioms};
 

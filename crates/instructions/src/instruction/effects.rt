@@ -1,13 +1,13 @@
 // What an instruction computes from the values of its operands.
 ghost use Rattle.std.specs.Prelude.{◌≡◌};
-ghost use Rattle.instructions.specs.Effects.{result, address_sum, data_sum, next_place, guessed_place};
+ghost use Rattle.instructions.specs.Effects.{arithmetic_result, address_sum, data_sum, next_place, guessed_place};
 
 use super::Instruction;
 
 impl Instruction {
     /// The result of an addition or a subtraction, modulo 65,536.
     pub fn result(self, x: u16, y: u16) -> u16
-        ensures* { λ r. ⌜ r ≡ result self x y ⌝ }
+        ensures { result ≡ arithmetic_result self x y }
     {
         match self {
             Instruction::Add { k, .. } => x.wrapping_add(y).wrapping_add(k),
@@ -18,7 +18,7 @@ impl Instruction {
 
     /// The address of an access, before it is reduced modulo 16.
     pub fn address(self, x: u16) -> u16
-        ensures* { λ r. ⌜ r ≡ address_sum self x ⌝ }
+        ensures { result ≡ address_sum self x }
     {
         match self {
             Instruction::Load { k, .. } => x.wrapping_add(k),
@@ -29,7 +29,7 @@ impl Instruction {
 
     /// The data of a store.
     pub fn stored(self, x: u16) -> u16
-        ensures* { λ r. ⌜ r ≡ data_sum self x ⌝ }
+        ensures { result ≡ data_sum self x }
     {
         match self {
             Instruction::Store { j, .. } => x.wrapping_add(j),
@@ -39,7 +39,7 @@ impl Instruction {
 
     /// The place after the one where it stands; a branch goes to its target if its operand is `k`.
     pub fn next(self, place: u8, x: u16) -> u16
-        ensures* { λ r. ⌜ r ≡ next_place self place x ⌝ }
+        ensures { result ≡ next_place self place x }
     {
         match self {
             Instruction::Branch { k, j, .. } if x == k => j,
@@ -49,7 +49,7 @@ impl Instruction {
 
     /// The place that a guess leads to.
     pub fn guessed(self, place: u8, taken: bool) -> u16
-        ensures* { λ r. ⌜ r ≡ guessed_place self place taken ⌝ }
+        ensures { result ≡ guessed_place self place taken }
     {
         match self {
             Instruction::Branch { j, .. } if taken => j,

@@ -8,5 +8,5 @@ loop-position-init c = all_none _
 pub loop-position-preserved : goal.loop-position-preserved
 loop-position-preserved c = search (rules, all_more)
 
-pub returns-then-not-place-fits : goal.returns-then-not-place-fits
-returns-then-not-place-fits c = sym (all_fails _ _ c.loop-position.position (omega arith) (sym c.place-fits.ensures ∙ c.if-not-place-fits.true))
+pub returns-then-not-place_fits : goal.returns-then-not-place_fits
+returns-then-not-place_fits c = sym (all_fails _ _ c.loop-position.position (omega arith) (sym c.place_fits.ensures ∙ c.if-not-place_fits.true))

@@ -8,13 +8,13 @@ use Rattle.events.proofs.Evaluations.{path_sourced, path_evaluated}
 use Rattle.events.proofs.LoadCounts.{path_short}
 use Rattle.events.proofs.evaluate.path.Goals as goal
 
-pub path-sources-sources-requires : goal.path-sources-sources-requires
-path-sources-sources-requires c =
+pub path_sources-sources-requires : goal.path_sources-sources-requires
+path_sources-sources-requires c =
     let w = c.args.witness.now in
-    (omega (arith, ap length c.path-places.ensures, path_short (execution_of w) c.args.processor (within w)), c.loads-before-first.ensures.few)
+    (omega (arith, ap length c.path-places.ensures, path_short (execution_of w) c.args.processor (within w)), c.loads_before-first.ensures.few)
 
-pub path-events-events-requires : goal.path-events-events-requires
-path-events-events-requires c =
+pub path_events-events-requires : goal.path_events-events-requires
+path_events-events-requires c =
     let w = c.args.witness.now in
     omega (arith, ap length c.path-places.ensures, path_short (execution_of w) c.args.processor (within w))
 
@@ -25,9 +25,9 @@ returns c =
     let p = c.args.processor in
     let code = c.code-code.ensures.value in
     let places = c.path-places.ensures in
-    let sources : items c.path-sources-sources.result ≡ path_sources q w p =
-    path_sourced q w p code places c.sources.ensures c.loads-before-first.ensures.count c.path-sources-sources.ensures in
+    let sources : items c.path_sources-sources.result ≡ path_sources q w p =
+    path_sourced q w p code places c.sources.ensures c.loads_before-first.ensures.count c.path_sources-sources.ensures in
     record {
-      events = path_evaluated q w p code places (c.as-slice.ensures ∙ sources) c.path-events-events.ensures;
+      events = path_evaluated q w p code places (c.as_slice.ensures ∙ sources) c.path_events-events.ensures;
       sources = sources;
     }

@@ -8,10 +8,10 @@ loop-i-init c = c.new-events.ensures ∙ sym (events_none c.args.code.now c.args
 
 pub loop-i-preserved : goal.loop-i-preserved
 loop-i-preserved c =
-    events_push c.args.code.now c.args.places.now (λ k. (get_or c.args.sources.now k no_source).value) c.loop-i.i c.source-at-stated.result.value
+    events_push c.args.code.now c.args.places.now (λ k. (get_or c.args.sources.now k no_source).value) c.loop-i.i c.source_at-stated.result.value
     (omega (arith, c.requires, c.loop-i-test.true))
     c.loop-i.invariant
-    c.as-slice.ensures
-    (ap (λ s. s.value) c.source-at-stated.ensures)
-    c.next-event-event.ensures
+    c.as_slice.ensures
+    (ap (λ s. s.value) c.source_at-stated.ensures)
+    c.next_event-event.ensures
     c.push.ensures.items

@@ -9,18 +9,18 @@ use Rattle.events.proofs.loads.loads_before.Goals as goal
 use Rattle.events.proofs.loads.loads_before.Goals.{then-processors-paths, else-processors-paths}
 
 -- The loads of the path that was just counted.
-path-counted : (c : goal.After-path-loads-count) →
+path-counted : (c : goal.After-path_loads-count) →
     let q = litmus_of c.args.question.now in
     let w = execution_of c.args.witness.now in
     let p = c.loop-p.p in
-    c.path-loads-count.result ≡ loads_upto (code_at q p) (path_at w p) (length (path_at w p))
-path-counted c = c.path-loads-count.ensures ∙ (λ i. loads_upto (c.code.ensures.value i) (c.path.ensures i) (length (c.path.ensures i)))
+    c.path_loads-count.result ≡ loads_upto (code_at q p) (path_at w p) (length (path_at w p))
+path-counted c = c.path_loads-count.ensures ∙ (λ i. loads_upto (c.code.ensures.value i) (c.path.ensures i) (length (c.path.ensures i)))
 
 pub loop-p-init : goal.loop-p-init
 loop-p-init c = sym (before_none (litmus_of c.args.question.now) (execution_of c.args.witness.now))
 
-pub overflow-add-count : goal.overflow-add-count
-overflow-add-count c =
+pub overflow_add-count : goal.overflow_add-count
+overflow_add-count c =
     let q = litmus_of c.args.question.now in
     let w = execution_of c.args.witness.now in
     let p = c.loop-p.p in

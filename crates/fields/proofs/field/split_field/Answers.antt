@@ -8,4 +8,4 @@ returns c =
     let b = c.args.bytes.now in
     let r = take_rest b 3 in
     let l : stated b ≤ length (drop 3 b) = rw r at c.if-behind-size.false in
-    rw (c.split-at.ensures.front, c.split-at.ensures.back, r) (sym (split_whole b c.if-bytes-lt3.false l))
+    rw (c.split_at.ensures.front, c.split_at.ensures.back, r) (sym (split_whole b c.if-bytes-lt3.false l))

@@ -10,7 +10,7 @@ use Rattle.machine.proofs.order.kept.Goals.{then-stays, else-stays}
 pub loop-access-preserved : goal.loop-access-preserved
 loop-access-preserved c =
     let t = stays c.args.processor c.args.keep in
-    let xs = c.as-slice-access-items.result.now in
+    let xs = c.as_slice-access-items.result.now in
     let i = c.loop-access.access-index in
     let front = items c.loop-access.rest in
     let d : Access = record { processor = 0; position = 0 } in
@@ -18,7 +18,7 @@ loop-access-preserved c =
     let v = c.args.order in
     elim c.if-stays.branch [
       | then-stays w ↦
-          (let few : length xs ≤ 64 = omega (arith, ap length c.as-slice-access-items.ensures, length-take v.len v.slots, v.fits) in
+          (let few : length xs ≤ 64 = omega (arith, ap length c.as_slice-access-items.ensures, length-take v.len v.slots, v.fits) in
           let grown : items c.if-stays.rest ≡ front ++ x ∷ [] =
           ap items w.rest-is ∙ w.push.ensures.items ∙ take_all 64 (front ++ x ∷ []) (omega (arith, length_push front x)) in (
             omega (arith, ap length grown, length_push front x),
@@ -33,5 +33,5 @@ loop-access-preserved c =
 pub returns : goal.returns
 returns c =
     let t = stays c.args.processor c.args.keep in
-    let all = only_all t c.as-slice-access-items.result.now (items c.loop-access.rest) c.loop-access.access-index c.loop-access-test.false c.loop-access.invariant.1 in
-    sym all ∙ ap (only t) c.as-slice-access-items.ensures
+    let all = only_all t c.as_slice-access-items.result.now (items c.loop-access.rest) c.loop-access.access-index c.loop-access-test.false c.loop-access.invariant.1 in
+    sym all ∙ ap (only t) c.as_slice-access-items.ensures

@@ -6,13 +6,13 @@ use Rattle.ordering.proofs.dependencies.some_address_depends.Goals as goal
 pub loop-middle-init : goal.loop-middle-init
 loop-middle-init c = some_none (depends_for_address c.args.events.now c.args.first)
 
-pub returns-then-depends-for-address : goal.returns-then-depends-for-address
-returns-then-depends-for-address c =
-    sym (some_hit (depends_for_address c.args.events.now c.args.first) c.args.second c.loop-middle.middle c.loop-middle-test.true (sym c.depends-for-address.ensures ∙ c.if-depends-for-address.true))
+pub returns-then-depends_for_address : goal.returns-then-depends_for_address
+returns-then-depends_for_address c =
+    sym (some_hit (depends_for_address c.args.events.now c.args.first) c.args.second c.loop-middle.middle c.loop-middle-test.true (sym c.depends_for_address.ensures ∙ c.if-depends_for_address.true))
 
 pub loop-middle-preserved : goal.loop-middle-preserved
 loop-middle-preserved c =
-    some_miss (depends_for_address c.args.events.now c.args.first) c.loop-middle.middle (sym c.depends-for-address.ensures ∙ c.if-depends-for-address.false) c.loop-middle.invariant
+    some_miss (depends_for_address c.args.events.now c.args.first) c.loop-middle.middle (sym c.depends_for_address.ensures ∙ c.if-depends_for_address.false) c.loop-middle.invariant
 
 pub returns : goal.returns
 returns c =

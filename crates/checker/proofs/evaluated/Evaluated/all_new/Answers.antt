@@ -8,5 +8,5 @@ loop-number-init c = all_none _
 pub loop-number-preserved : goal.loop-number-preserved
 loop-number-preserved c = search (rules, all_more)
 
-pub returns-then-not-is-new : goal.returns-then-not-is-new
-returns-then-not-is-new c = sym (all_fails _ _ c.loop-number.number (omega arith) (sym c.is-new.ensures ∙ c.if-not-is-new.true))
+pub returns-then-not-is_new : goal.returns-then-not-is_new
+returns-then-not-is_new c = sym (all_fails _ _ c.loop-number.number (omega arith) (sym c.is_new.ensures ∙ c.if-not-is_new.true))

@@ -8,5 +8,5 @@ loop-processor-init c = all_none _
 pub loop-processor-preserved : goal.loop-processor-preserved
 loop-processor-preserved c = search (rules, all_more)
 
-pub returns-then-not-path-is-ordered : goal.returns-then-not-path-is-ordered
-returns-then-not-path-is-ordered c = sym (all_fails _ _ c.loop-processor.processor (omega arith) (sym c.path-is-ordered.ensures ∙ c.if-not-path-is-ordered.true))
+pub returns-then-not-path_is_ordered : goal.returns-then-not-path_is_ordered
+returns-then-not-path_is_ordered c = sym (all_fails _ _ c.loop-processor.processor (omega arith) (sym c.path_is_ordered.ensures ∙ c.if-not-path_is_ordered.true))

@@ -8,5 +8,5 @@ loop-processor-init c = all_none _
 pub loop-processor-preserved : goal.loop-processor-preserved
 loop-processor-preserved c = search (rules, all_more)
 
-pub returns-then-not-path-runs-through : goal.returns-then-not-path-runs-through
-returns-then-not-path-runs-through c = sym (all_fails _ _ c.loop-processor.processor (omega arith) (sym c.path-runs-through.ensures ∙ c.if-not-path-runs-through.true))
+pub returns-then-not-path_runs_through : goal.returns-then-not-path_runs_through
+returns-then-not-path_runs_through c = sym (all_fails _ _ c.loop-processor.processor (omega arith) (sym c.path_runs_through.ensures ∙ c.if-not-path_runs_through.true))

@@ -14,12 +14,12 @@ returns-then-processor-paths c =
     let rows = items s.paths in
     let p = c.args.processor in
     let d = c.index-paths-processor.result in
-    let l : p < length rows = omega (arith, ap length c.as-slice-paths.ensures) in
-    let v = (get_or c.as-slice-paths.result.now p d).events in
-    let same = c.as-slice.ensures ∙ ap (λ ys. items (get_or ys p d).events) c.as-slice-paths.ensures in
+    let l : p < length rows = omega (arith, ap length c.as_slice-paths.ensures) in
+    let v = (get_or c.as_slice-paths.result.now p d).events in
+    let same = c.as_slice.ensures ∙ ap (λ ys. items (get_or ys p d).events) c.as_slice-paths.ensures in
     record {
       value = ∥∥₁_elim s.evaluation (events_set _ _) (λ e. same ∙ row_has_events (asked s) (stated s) rows e p d l);
-      few = omega (arith, ap length c.as-slice.ensures, length-take v.len v.slots, v.fits);
+      few = omega (arith, ap length c.as_slice.ensures, length-take v.len v.slots, v.fits);
     }
 
 pub returns-else-processor-paths : goal.returns-else-processor-paths
@@ -27,5 +27,5 @@ returns-else-processor-paths c =
     let s = c.args.self.now in
     let rows = items s.paths in
     let p = c.args.processor in
-    let l : length rows ≤ p = omega (arith, ap length c.as-slice-paths.ensures) in
+    let l : length rows ≤ p = omega (arith, ap length c.as_slice-paths.ensures) in
     record { value = ∥∥₁_elim s.evaluation (events_set _ _) (λ e. no_row_no_events (asked s) (stated s) rows e p l); few = omega arith }

@@ -9,9 +9,9 @@ loop-processor-init g c = all_none _
 pub loop-processor-preserved : goal.loop-processor-preserved
 loop-processor-preserved g c = search (rules, all_more)
 
-pub returns-then-not-path-is-kept : goal.returns-then-not-path-is-kept
+pub returns-then-not-path_is_kept : goal.returns-then-not-path_is_kept
 unfolding inst_order_test
-returns-then-not-path-is-kept g c = sym (all_fails _ _ c.loop-processor.processor (omega arith) (sym c.path-is-kept.ensures ∙ c.if-not-path-is-kept.true))
+returns-then-not-path_is_kept g c = sym (all_fails _ _ c.loop-processor.processor (omega arith) (sym c.path_is_kept.ensures ∙ c.if-not-path_is_kept.true))
 
 pub returns : goal.returns
 unfolding inst_order_test

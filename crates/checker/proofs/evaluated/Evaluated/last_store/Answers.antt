@@ -6,18 +6,18 @@ use Rattle.checker.specs.Tests.{ordered}
 use Rattle.checker.specs.Views.{asked, stated}
 use Rattle.checker.proofs.evaluated.Evaluated.last_store.Goals as goal
 
-pub returns-then-stores-to : goal.returns-then-stores-to
-returns-then-stores-to c =
+pub returns-then-stores_to : goal.returns-then-stores_to
+returns-then-stores_to c =
     let s = c.args.self.now in
     let t = λ (k : ℕ). stores_to (asked s) (stated s) c.args.address (ordered (asked s) (stated s) k) in
-    let hit = sym (c.if-stores-to.ensures ∙ ap (stores_to (asked s) (stated s) c.args.address) c.ordered.ensures) in
+    let hit = sym (c.if-stores_to.ensures ∙ ap (stores_to (asked s) (stated s) c.args.address) c.ordered.ensures) in
     sym (c.loop-number.invariant ∙ nearest_hit_under t c.loop-number.number c.loop-number-test.true hit)
 
 pub loop-number-preserved : goal.loop-number-preserved
 loop-number-preserved c =
     let s = c.args.self.now in
     let t = λ (k : ℕ). stores_to (asked s) (stated s) c.args.address (ordered (asked s) (stated s) k) in
-    let miss = sym (c.if-stores-to.ensures ∙ ap (stores_to (asked s) (stated s) c.args.address) c.ordered.ensures) in
+    let miss = sym (c.if-stores_to.ensures ∙ ap (stores_to (asked s) (stated s) c.args.address) c.ordered.ensures) in
     c.loop-number.invariant ∙ nearest_miss_under t c.loop-number.number c.loop-number-test.true miss
 
 pub returns : goal.returns

@@ -9,9 +9,9 @@ loop-processor-init c = all_none _
 pub loop-processor-preserved : goal.loop-processor-preserved
 loop-processor-preserved c = search (rules, all_more)
 
-pub returns-then-not-path-is-youngest : goal.returns-then-not-path-is-youngest
+pub returns-then-not-path_is_youngest : goal.returns-then-not-path_is_youngest
 unfolding load_value_test
-returns-then-not-path-is-youngest c = sym (all_fails _ _ c.loop-processor.processor (omega arith) (sym c.path-is-youngest.ensures ∙ c.if-not-path-is-youngest.true))
+returns-then-not-path_is_youngest c = sym (all_fails _ _ c.loop-processor.processor (omega arith) (sym c.path_is_youngest.ensures ∙ c.if-not-path_is_youngest.true))
 
 pub returns : goal.returns
 unfolding load_value_test

@@ -2,10 +2,10 @@ use Rattle.std.proofs.Common.{rules}
 use Rattle.checker.specs.Tests.{order_test}
 use Rattle.checker.proofs.evaluated.Evaluated.order_test.Goals as goal
 
-pub returns-then-all-new : goal.returns-then-all-new
+pub returns-then-all_new : goal.returns-then-all_new
 unfolding order_test
-returns-then-all-new c = search rules
+returns-then-all_new c = search rules
 
-pub returns-else-all-new : goal.returns-else-all-new
+pub returns-else-all_new : goal.returns-else-all_new
 unfolding order_test
-returns-else-all-new c = search rules
+returns-else-all_new c = search rules

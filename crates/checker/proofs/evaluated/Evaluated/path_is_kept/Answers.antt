@@ -8,5 +8,5 @@ loop-position-init g c = all_none _
 pub loop-position-preserved : goal.loop-position-preserved
 loop-position-preserved g c = search (rules, all_more)
 
-pub returns-then-not-position-is-kept : goal.returns-then-not-position-is-kept
-returns-then-not-position-is-kept g c = sym (all_fails _ _ c.loop-position.position (omega arith) (sym c.position-is-kept.ensures ∙ c.if-not-position-is-kept.true))
+pub returns-then-not-position_is_kept : goal.returns-then-not-position_is_kept
+returns-then-not-position_is_kept g c = sym (all_fails _ _ c.loop-position.position (omega arith) (sym c.position_is_kept.ensures ∙ c.if-not-position_is_kept.true))

@@ -8,5 +8,5 @@ loop-position-init c = all_none _
 pub loop-position-preserved : goal.loop-position-preserved
 loop-position-preserved c = search (rules, all_more)
 
-pub returns-then-not-is-ordered : goal.returns-then-not-is-ordered
-returns-then-not-is-ordered c = sym (all_fails _ _ c.loop-position.position (omega arith) (sym c.is-ordered.ensures ∙ c.if-not-is-ordered.true))
+pub returns-then-not-is_ordered : goal.returns-then-not-is_ordered
+returns-then-not-is_ordered c = sym (all_fails _ _ c.loop-position.position (omega arith) (sym c.is_ordered.ensures ∙ c.if-not-is_ordered.true))

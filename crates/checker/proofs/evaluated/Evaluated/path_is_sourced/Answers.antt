@@ -8,5 +8,5 @@ loop-position-init c = all_none _
 pub loop-position-preserved : goal.loop-position-preserved
 loop-position-preserved c = search (rules, all_more)
 
-pub returns-then-not-is-sourced : goal.returns-then-not-is-sourced
-returns-then-not-is-sourced c = sym (all_fails _ _ c.loop-position.position (omega arith) (sym c.is-sourced.ensures ∙ c.if-not-is-sourced.true))
+pub returns-then-not-is_sourced : goal.returns-then-not-is_sourced
+returns-then-not-is_sourced c = sym (all_fails _ _ c.loop-position.position (omega arith) (sym c.is_sourced.ensures ∙ c.if-not-is_sourced.true))

@@ -8,5 +8,5 @@ loop-position-init c = all_none _
 pub loop-position-preserved : goal.loop-position-preserved
 loop-position-preserved c = search (rules, all_more)
 
-pub returns-then-not-is-youngest : goal.returns-then-not-is-youngest
-returns-then-not-is-youngest c = sym (all_fails _ _ c.loop-position.position (omega arith) (sym c.is-youngest.ensures ∙ c.if-not-is-youngest.true))
+pub returns-then-not-is_youngest : goal.returns-then-not-is_youngest
+returns-then-not-is_youngest c = sym (all_fails _ _ c.loop-position.position (omega arith) (sym c.is_youngest.ensures ∙ c.if-not-is_youngest.true))

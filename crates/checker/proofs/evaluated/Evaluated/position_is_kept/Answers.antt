@@ -7,7 +7,7 @@ use Rattle.checker.proofs.evaluated.Evaluated.position_is_kept.Goals as goal
 pub returns : goal.returns
 returns g c =
     let s = c.args.self.now in
-    c.row-is-kept.ensures
+    c.row_is_kept.ensures
     ∙ row_is_what_is_kept (g.R.OrderingRule.keeps c.args.rule.now) (asked s) (stated s) c.args.processor c.args.first
-    c.events.result.now (items c.reached-from-reached.result) c.as-slice.result.now
-    c.events.ensures.value c.reached-from-reached.ensures c.as-slice.ensures
+    c.events.result.now (items c.reached_from-reached.result) c.as_slice.result.now
+    c.events.ensures.value c.reached_from-reached.ensures c.as_slice.ensures

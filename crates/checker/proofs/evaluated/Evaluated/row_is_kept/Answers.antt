@@ -8,5 +8,5 @@ loop-second-init c = all_none _
 pub loop-second-preserved : goal.loop-second-preserved
 loop-second-preserved c = search (rules, all_more)
 
-pub returns-then-not-is-kept-in-order : goal.returns-then-not-is-kept-in-order
-returns-then-not-is-kept-in-order c = sym (all_fails _ _ c.loop-second.second (omega arith) (sym c.is-kept-in-order.ensures ∙ c.if-not-is-kept-in-order.true))
+pub returns-then-not-is_kept_in_order : goal.returns-then-not-is_kept_in_order
+returns-then-not-is_kept_in_order c = sym (all_fails _ _ c.loop-second.second (omega arith) (sym c.is_kept_in_order.ensures ∙ c.if-not-is_kept_in_order.true))

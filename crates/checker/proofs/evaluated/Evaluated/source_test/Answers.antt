@@ -9,9 +9,9 @@ loop-processor-init c = all_none _
 pub loop-processor-preserved : goal.loop-processor-preserved
 loop-processor-preserved c = search (rules, all_more)
 
-pub returns-then-not-path-is-sourced : goal.returns-then-not-path-is-sourced
+pub returns-then-not-path_is_sourced : goal.returns-then-not-path_is_sourced
 unfolding source_test
-returns-then-not-path-is-sourced c = sym (all_fails _ _ c.loop-processor.processor (omega arith) (sym c.path-is-sourced.ensures ∙ c.if-not-path-is-sourced.true))
+returns-then-not-path_is_sourced c = sym (all_fails _ _ c.loop-processor.processor (omega arith) (sym c.path_is_sourced.ensures ∙ c.if-not-path_is_sourced.true))
 
 pub returns : goal.returns
 unfolding source_test

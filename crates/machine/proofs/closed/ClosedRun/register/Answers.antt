@@ -9,7 +9,7 @@ pub returns-then-processor-rows : goal.returns-then-processor-rows
 returns-then-processor-rows g c =
     let s = c.args.self.now in
     let xs = items s.registers in
-    let n : length (map row_values xs) ≡ length c.as-slice-rows.result.now = length-map xs row_values ∙ ap length (sym c.as-slice-rows.ensures) in
+    let n : length (map row_values xs) ≡ length c.as_slice-rows.result.now = length-map xs row_values ∙ ap length (sym c.as_slice-rows.ensures) in
     register_absent (closed_state g.M.Memory.cells s) c.args.processor c.args.register c.if-not-self.false (elim c.then-processor-rows.either [
       | inl l ↦ inl (omega arith)
       | inr (l, m) ↦ inr (omega arith, m)
@@ -19,11 +19,11 @@ pub returns : goal.returns
 returns g c =
     let s = c.args.self.now in
     let xs = items s.registers in
-    let ys = c.as-slice-rows.result.now in
+    let ys = c.as_slice-rows.result.now in
     let p = c.args.processor in
     let r = c.args.register in
     let d = c.index-rows-processor.result in
-    let e : ys ≡ xs = c.as-slice-rows.ensures in
+    let e : ys ≡ xs = c.as_slice-rows.ensures in
     let l : p < length xs = rw e at c.if-processor-rows.false in
     ap (λ zs. Ok (get_or (get_or zs p d).values r 0)) e
     ∙ ap (λ vs. Ok (get_or vs r 0)) (sym (get_or-map row_values xs p d [] l))

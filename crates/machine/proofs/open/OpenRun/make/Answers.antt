@@ -20,6 +20,6 @@ returns g c =
     let cores = ap (take n) c.make.ensures.cores ∙ take_set_within n cs p _ c.requires ∙ ap (λ x. set (take n cs) p (core_changed x i ch)) e in
     record {
       value = c.make.ensures.value ∙ ap (λ x. removed ch.cut (length x.entries)) e;
-      state = same_state cores c.after-step.ensures c.write-cell.ensures;
+      state = same_state cores c.after_step.ensures c.write_cell.ensures;
       question = refl;
     }

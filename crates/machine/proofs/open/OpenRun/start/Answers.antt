@@ -10,5 +10,5 @@ returns g c =
     let codes = (litmus_of q).code in
     record {
       question = refl;
-      state = same_state (ap (take (length codes)) c.new.ensures ∙ all_empty codes 4 (few_processors q)) c.new-order.ensures (c.write-start.ensures ∙ ap (map start_cell) c.start.ensures);
+      state = same_state (ap (take (length codes)) c.new.ensures ∙ all_empty codes 4 (few_processors q)) c.new-order.ensures (c.write_start.ensures ∙ ap (map start_cell) c.start.ensures);
     }

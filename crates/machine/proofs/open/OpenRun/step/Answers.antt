@@ -5,10 +5,10 @@ use Rattle.machine.proofs.Cores.{few_processors}
 use Rattle.machine.proofs.Outcomes.{cores_counted, no_rule, no_processor, fetch_step, act_step}
 use Rattle.machine.proofs.open.OpenRun.step.Goals as goal
 
-pub returns-in-default : goal.returns-in-default
-returns-in-default g c =
+pub returns-in_default : goal.returns-in_default
+returns-in_default g c =
     let s = open_state g.M.Memory.cells c.args.self.now in
-    let o = no_rule (run_question c.args.self.now) s c.args.step (sym c.numbered.ensures ∙ c.in-default.is) in
+    let o = no_rule (run_question c.args.self.now) s c.args.step (sym c.numbered.ensures ∙ c.in_default.is) in
     record { value = sym (ap answer o); state = sym (ap (after s) o); question = refl }
 
 pub returns-then-step-processors : goal.returns-then-step-processors
@@ -27,10 +27,10 @@ returns-in-Fetch g c =
     let o = fetch_step (run_question r) s c.args.step (sym c.numbered.ensures ∙ c.in-Some.is ∙ ap Some c.in-Fetch.is) (omega (arith, n)) in
     record { value = c.fetch.ensures.value ∙ sym (ap answer o); state = c.fetch.ensures.state ∙ sym (ap (after s) o); question = c.fetch.ensures.question }
 
-pub returns-in-default-rule : goal.returns-in-default-rule
-returns-in-default-rule g c =
+pub returns-in_default-rule : goal.returns-in_default-rule
+returns-in_default-rule g c =
     let r = c.args.self.now in
     let s = open_state g.M.Memory.cells r in
     let n = cores_counted (length (run_question r).code) r.processors (few_processors r.question.now) in
-    let o = act_step (run_question r) s c.args.step c.in-Some.rule (sym c.numbered.ensures ∙ c.in-Some.is) c.in-default-rule.not-Fetch (omega (arith, n)) in
+    let o = act_step (run_question r) s c.args.step c.in-Some.rule (sym c.numbered.ensures ∙ c.in-Some.is) c.in_default-rule.not-Fetch (omega (arith, n)) in
     record { value = c.act.ensures.value ∙ sym (ap answer o); state = c.act.ensures.state ∙ sym (ap (after s) o); question = c.act.ensures.question }

@@ -17,10 +17,10 @@ pub loop-entry-preserved : goal.loop-entry-preserved
 loop-entry-preserved c =
     let start = items c.args.sources.now in
     let xs = items c.args.self.now.entries in
-    let ys = c.as-slice-entry-items.result.now in
+    let ys = c.as_slice-entry-items.result.now in
     let i = c.loop-entry.entry-index in
     let held = items c.loop-entry.sources in
-    let e : ys ≡ xs = c.as-slice-entry-items.ensures in
+    let e : ys ≡ xs = c.as_slice-entry-items.ensures in
     let l : i < length xs = rw e at c.loop-entry-test.true in
     let same : entry_sources (get_or xs i blank) ≡ entry_sources (get_or ys i blank) = ap (λ zs. entry_sources (get_or zs i blank)) (sym e) in
     elim c.if-loads.branch [
@@ -38,4 +38,4 @@ returns c =
     let start = items c.args.sources.now in
     let xs = items c.args.self.now.entries in
     c.loop-entry.invariant
-    ∙ ap (λ t. take 64 (start ++ flat_map entry_sources t)) (take_all c.loop-entry.entry-index xs (omega (arith, ap length c.as-slice-entry-items.ensures, c.loop-entry-test.false)))
+    ∙ ap (λ t. take 64 (start ++ flat_map entry_sources t)) (take_all c.loop-entry.entry-index xs (omega (arith, ap length c.as_slice-entry-items.ensures, c.loop-entry-test.false)))

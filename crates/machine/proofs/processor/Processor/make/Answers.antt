@@ -6,8 +6,8 @@ use Rattle.machine.specs.Steps.{core_changed, removed}
 use Rattle.machine.specs.Views.{core_of}
 use Rattle.machine.proofs.processor.Processor.make.Goals as goal
 
-pub overflow-sub-result : goal.overflow-sub-result
-overflow-sub-result c =
+pub overflow_sub-result : goal.overflow_sub-result
+overflow_sub-result c =
     let ys = items c.set.new.self in
     omega (arith, ap length c.truncate.ensures, length-take c.in-Some.cut.keep ys)
 

@@ -11,10 +11,10 @@ loop-entry-preserved c =
     let xs = items c.args.self.now.entries in
     let i = c.loop-entry.entry-index in
     let place : Entry → ℕ = λ e. e.place in
-    let e = c.as-slice-entry-items.ensures in
+    let e = c.as_slice-entry-items.ensures in
     let l : i < length xs = rw e at c.loop-entry-test.true in
     c.push.ensures.items
-    ∙ ap (λ ys. take 16 (ys ++ (get_or c.as-slice-entry-items.result.now i blank).place ∷ [])) c.loop-entry.invariant
+    ∙ ap (λ ys. take 16 (ys ++ (get_or c.as_slice-entry-items.result.now i blank).place ∷ [])) c.loop-entry.invariant
     ∙ ap (λ ys. take 16 (take 16 (map place (take i xs)) ++ (get_or ys i blank).place ∷ [])) e
     ∙ mapped_next place 16 xs i blank l
 
@@ -24,5 +24,5 @@ returns c =
     let xs = items v in
     let place : Entry → ℕ = λ e. e.place in
     c.loop-entry.invariant
-    ∙ ap (λ t. take 16 (map place t)) (take_all c.loop-entry.entry-index xs (omega (arith, ap length c.as-slice-entry-items.ensures, c.loop-entry-test.false)))
+    ∙ ap (λ t. take 16 (map place t)) (take_all c.loop-entry.entry-index xs (omega (arith, ap length c.as_slice-entry-items.ensures, c.loop-entry-test.false)))
     ∙ take_all 16 (map place xs) (omega (arith, length-map xs place, length-take v.len v.slots, v.fits))

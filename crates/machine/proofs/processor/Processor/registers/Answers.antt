@@ -11,8 +11,8 @@ loop-r-preserved c =
     let f = register_value (items c.args.self.now.entries) in
     let vs = c.loop-r.values in
     let r = c.loop-r.r in
-    let v = c.register-value.result in
-    let e : v ≡ f r = c.register-value.ensures ∙ ap (λ es. register_value es r) c.as-slice-entries.ensures in (
+    let v = c.register_value.result in
+    let e : v ≡ f r = c.register_value.ensures ∙ ap (λ es. register_value es r) c.as_slice-entries.ensures in (
       length-set vs r v ∙ c.loop-r.invariant.0,
       take_more_set vs r v (omega arith)
           ∙ ap (λ ys. ys ++ v ∷ []) c.loop-r.invariant.1

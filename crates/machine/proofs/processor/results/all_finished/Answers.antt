@@ -12,8 +12,8 @@ returns-then-p-processors c =
     let codes = (litmus_of c.args.question.now).code in
     finished_past_code codes (map core_of c.args.rows.now) c.loop-p.p c.loop-p.invariant (omega (arith, c.processors.ensures, c.if-p-processors.true))
 
-pub returns-then-not-is-finished : goal.returns-then-not-is-finished
-returns-then-not-is-finished c =
+pub returns-then-not-is_finished : goal.returns-then-not-is_finished
+returns-then-not-is_finished c =
     let codes = (litmus_of c.args.question.now).code in
     let xs = c.args.rows.now in
     let p = c.loop-p.p in
@@ -22,7 +22,7 @@ returns-then-not-is-finished c =
     finished_stops codes (map core_of xs) p c.loop-p.invariant
     (omega (arith, c.processors.ensures, c.if-p-processors.false))
     (omega (arith, length-map xs core_of, c.loop-p-test.true))
-    (ap (core_finished (get_or codes p [])) (sym here) ∙ ap (λ xs. core_finished xs (core_of d)) (sym c.code.ensures.value) ∙ sym c.is-finished.ensures ∙ c.if-not-is-finished.true)
+    (ap (core_finished (get_or codes p [])) (sym here) ∙ ap (λ xs. core_finished xs (core_of d)) (sym c.code.ensures.value) ∙ sym c.is_finished.ensures ∙ c.if-not-is_finished.true)
 
 pub loop-p-preserved : goal.loop-p-preserved
 loop-p-preserved c =
@@ -34,7 +34,7 @@ loop-p-preserved c =
     finished_goes_on codes (map core_of xs) p c.loop-p.invariant
     (omega (arith, c.processors.ensures, c.if-p-processors.false))
     (omega (arith, length-map xs core_of, c.loop-p-test.true))
-    (ap (core_finished (get_or codes p [])) (sym here) ∙ ap (λ xs. core_finished xs (core_of d)) (sym c.code.ensures.value) ∙ sym c.is-finished.ensures ∙ c.if-not-is-finished.false)
+    (ap (core_finished (get_or codes p [])) (sym here) ∙ ap (λ xs. core_finished xs (core_of d)) (sym c.code.ensures.value) ∙ sym c.is_finished.ensures ∙ c.if-not-is_finished.false)
 
 pub returns : goal.returns
 returns c =

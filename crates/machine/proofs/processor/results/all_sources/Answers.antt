@@ -11,7 +11,7 @@ loop-row-preserved c =
     let xs = c.args.rows.now in
     let i = c.loop-row.row-index in
     let x = c.row-item.result in
-    c.add-sources.ensures
+    c.add_sources.ensures
     ∙ ap (λ ys. take 64 (ys ++ core_sources (core_of x))) c.loop-row.invariant
     ∙ ap (λ y. take 64 (take 64 (flat_map core_sources (map core_of (take i xs))) ++ core_sources (core_of y))) c.row-item.is
     ∙ core_sources_next xs i x c.loop-row-test.true

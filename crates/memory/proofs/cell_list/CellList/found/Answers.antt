@@ -7,7 +7,7 @@ use Rattle.memory.proofs.cell_list.CellList.found.Goals as goal
 pub returns-in-Some : goal.returns-in-Some
 returns-in-Some c =
     let i = c.in-Some.i in
-    ap (λ rs. (get_or rs i blank_row).cell) c.as-slice.ensures
+    ap (λ rs. (get_or rs i blank_row).cell) c.as_slice.ensures
     ∙ sym (find_placed (items c.args.self.now.rows) c.args.address i c.in-Some.ensures)
 
 pub returns-in-None : goal.returns-in-None

@@ -15,16 +15,16 @@ returns-in-None c =
     c.push.ensures.items
     ∙ push_is_put (items s.rows) c.args.address c.args.cell s.apart c.in-None.ensures c.requires
 
-pub invariant-of-self : goal.invariant-of-self
-invariant-of-self c =
+pub invariant_of-self : goal.invariant_of-self
+invariant_of-self c =
     let s = c.args.self.now in
     let rs = items s.rows in
     let written = c.set.ensures.items ∙ sym (put_placed rs c.args.address c.in-Some.i c.args.cell c.in-Some.ensures) in
-    (rw written (once_put rs c.args.address c.args.cell s.apart c.requires), tt)
+    record { apart = rw written (once_put rs c.args.address c.args.cell s.apart c.requires) }
 
-pub invariant-of-self-in-None : goal.invariant-of-self-in-None
-invariant-of-self-in-None c =
+pub invariant_of-self-in-None : goal.invariant_of-self-in-None
+invariant_of-self-in-None c =
     let s = c.args.self.now in
     let rs = items s.rows in
     let written = c.push.ensures.items ∙ push_is_put rs c.args.address c.args.cell s.apart c.in-None.ensures c.requires in
-    (rw written (once_put rs c.args.address c.args.cell s.apart c.requires), tt)
+    record { apart = rw written (once_put rs c.args.address c.args.cell s.apart c.requires) }
