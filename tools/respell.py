@@ -16,7 +16,7 @@ import sys
 
 TOKEN = re.compile(r"(?<![\w'-])[A-Za-z_ℕ][\w'ℕℤ]*(?:-[\w'ℕℤ]+)+(?![\w'])")
 SIGNATURE = re.compile(r"^\s*(?:(?:abbrev|unfoldable|pub|data|record|ruleset|mutual) )*([^\s:(){}|=;,]+(?: [^\s:(){}|=;,]+)*)(?: [({][^\n]*)? :\s", re.M)
-LIBRARY = re.compile(r"use (?:Rattle\.(?:std|core)|native|mathlib|lib|borrow|Prim)\b[^\n{]*\{([^}]*)\}")
+LIBRARY = re.compile(r"use (?:Rattle\.(?:std|core)|base|native|mathlib|lib|borrow|Prim)\b[^\n{]*\{([^}]*)\}")
 IMPORT = re.compile(r"use ([\w.+'-]+)\.\{([^}]*)\}")
 
 
