@@ -1,7 +1,7 @@
 -- A field that ends within the bytes is cut off as its header says.
-use Rattle.std.proofs.Common.{◌≡◌, ℕ, ◌≤◌, List, [], ◌∷◌, length, get_or, take, drop, Ok, sym, refl, ap, ◌∙◌, arith}
+use Rattle.std.proofs.Common.{◌≡◌, ℕ, ◌≤◌, List, [], ◌∷◌, length, get_or, take, drop, Ok, arith}
 use Rattle.std.proofs.lemmas.Bool.{le-ltb}
-use Rattle.fields.specs.Fields.{Cut, word, split_field}
+use Rattle.fields.specs.Fields.{word, split_field}
 
 -- The size that the header of some bytes states.
 abbrev pub stated : List ℕ → ℕ

@@ -1,5 +1,5 @@
 -- What an instruction does, by questions that need not exclude each other.
-use Rattle.std.specs.Prelude.{ℕ, Bool, true, false, ◌||◌, Some, None, Option, ◌==◌}
+use Rattle.std.specs.Prelude.{ℕ, Bool, true, false, ◌||◌, None, Option, ◌==◌}
 use Rattle.instructions.specs.declared.instruction.AccessType.{AccessType}
 use Rattle.instructions.specs.declared.instruction.AccessType.TheVariants as access_type
 use Rattle.instructions.specs.declared.instruction.Instruction.{Instruction}

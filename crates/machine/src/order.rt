@@ -31,12 +31,7 @@ fn kept(order: Bounded<Access, 64>, processor: u8, keep: usize) -> Bounded<Acces
 }
 
 /// The memory order after a step of the entry at a position: what was removed leaves it, and an access that is done joins it.
-pub(crate) fn after_step(
-    order: &mut Bounded<Access, 64>,
-    access: Access,
-    cut: Option<Cut>,
-    effect: Effect,
-)
+pub fn after_step(order: &mut Bounded<Access, 64>, access: Access, cut: Option<Cut>, effect: Effect)
     ensures { items order.new ≡ order_after effect (order_kept cut access.processor (items order.old)) access }
 {
     if let Some(cut) = cut {

@@ -1,5 +1,5 @@
 -- A field that was read is a step of the row, and so is one that was refused.
-use Rattle.std.proofs.Common.{◌≡◌, ℕ, Bool, true, false, cond, ◌&&◌, ◌||◌, eqb, ltb, List, [], length, Ok, Err, Result, sym, refl, ap, ◌∙◌, arith}
+use Rattle.std.proofs.Common.{◌≡◌, ℕ, Bool, true, false, cond, ◌&&◌, ◌||◌, eqb, ltb, List, [], length, Ok, Err, Result, refl, ap, ◌∙◌, arith}
 use Rattle.fields.specs.declared.refusal.Refusal.{Refusal}
 use Rattle.fields.specs.declared.refusal.Refusal.TheVariants.{TagNotAllowed, LengthNotAllowed}
 use Rattle.fields.specs.Fields.{Cut, split_field}

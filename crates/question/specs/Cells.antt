@@ -1,5 +1,5 @@
 -- The start values from the records of a cell field.
-use Rattle.std.specs.Prelude.{ℕ, suc, ◌%◌, Bool, true, false, cond, ◌&&◌, List, [], ◌∷◌, replicate, Ok, Err, Result, ◌==◌, nat_le, nat_lt, slice_set}
+use Rattle.std.specs.Prelude.{ℕ, suc, ◌%◌, Bool, cond, ◌&&◌, List, [], ◌∷◌, replicate, Ok, Err, Result, ◌==◌, nat_le, nat_lt, slice_set}
 use Rattle.fields.specs.declared.refusal.Refusal.{Refusal}
 use Rattle.fields.specs.declared.refusal.Refusal.TheVariants.{CellAddressNotAllowed}
 use Rattle.fields.specs.Fields.{word}

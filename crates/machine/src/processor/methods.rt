@@ -31,7 +31,7 @@ const BLANK: Entry = Entry {
 
 impl Processor {
     /// At place 0 with an empty buffer.
-    pub(crate) fn new() -> Processor
+    pub fn new() -> Processor
         ensures { core_of result ≡ empty_core }
     {
         Processor {
@@ -41,7 +41,7 @@ impl Processor {
     }
 
     /// Adds a fetched entry, where there is room, and goes on where it leads.
-    pub(crate) fn fetched(&mut self, entry: Entry)
+    pub fn fetched(&mut self, entry: Entry)
         ensures { core_of self.new ≡ core_fetched (core_of self.old) entry }
     {
         self.entries.push(entry);
@@ -49,7 +49,7 @@ impl Processor {
     }
 
     /// Makes a change of the entry at a position, and answers how many entries it removed.
-    pub(crate) fn make(&mut self, position: usize, change: Change) -> u8
+    pub fn make(&mut self, position: usize, change: Change) -> u8
         ensures value { result ≡ removed change.cut (length (items self.old.entries)) }
         ensures core { core_of self.new ≡ core_changed (core_of self.old) position change }
     {
@@ -68,7 +68,7 @@ impl Processor {
 
 impl Processors {
     /// All at place 0 with empty buffers.
-    pub(crate) fn new() -> Processors
+    pub fn new() -> Processors
         ensures { map core_of result.rows ≡ replicate 4 empty_core }
     {
         Processors {
@@ -77,7 +77,7 @@ impl Processors {
     }
 
     /// Adds a fetched entry to a processor's buffer.
-    pub(crate) fn fetched(&mut self, processor: usize, entry: Entry)
+    pub fn fetched(&mut self, processor: usize, entry: Entry)
         ensures { map core_of self.new.rows ≡ slice_set (map core_of self.old.rows) processor (core_fetched (slice_index_or (map core_of self.old.rows) processor empty_core) entry) }
     {
         if processor < 4 {
@@ -88,7 +88,7 @@ impl Processors {
     }
 
     /// Makes a change of the entry at a position of a processor, and answers how many entries it removed.
-    pub(crate) fn make(&mut self, processor: usize, position: usize, change: Change) -> u8
+    pub fn make(&mut self, processor: usize, position: usize, change: Change) -> u8
         requires { processor < 4 }
         ensures value { result ≡ removed change.cut (length (get_or (map core_of self.old.rows) processor empty_core).entries) }
         ensures cores { map core_of self.new.rows ≡ slice_set (map core_of self.old.rows) processor (core_changed (slice_index_or (map core_of self.old.rows) processor empty_core) position change) }

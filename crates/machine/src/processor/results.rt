@@ -105,7 +105,7 @@ impl Processor {
 
 impl Processors {
     /// The first processors, as many as there are.
-    pub(crate) fn first(&self, count: usize) -> &[Processor]
+    pub fn first(&self, count: usize) -> &[Processor]
         ensures { result.now ≡ take count self.now.rows }
     {
         let all = &self.rows[..];
@@ -114,7 +114,7 @@ impl Processors {
 }
 
 /// Whether every processor of a question is finished.
-pub(crate) fn all_finished(question: &Question, rows: &[Processor]) -> bool
+pub fn all_finished(question: &Question, rows: &[Processor]) -> bool
     ensures { result ≡ all_finished (litmus_of question.now).code (map core_of rows.now) }
 {
     for p in 0..rows.len() {
@@ -129,7 +129,7 @@ pub(crate) fn all_finished(question: &Question, rows: &[Processor]) -> bool
 }
 
 /// The registers of at most four processors.
-pub(crate) fn all_registers(rows: &[Processor]) -> Bounded<Registers, 4>
+pub fn all_registers(rows: &[Processor]) -> Bounded<Registers, 4>
     ensures { map row_values (items result) ≡ take 4 (map registers_of (map core_of rows.now)) }
 {
     let mut all = Bounded::new(Registers { values: [0; 8] });
@@ -140,7 +140,7 @@ pub(crate) fn all_registers(rows: &[Processor]) -> Bounded<Registers, 4>
 }
 
 /// The places that at most four processors ran.
-pub(crate) fn all_paths(rows: &[Processor]) -> Bounded<Bounded<u8, 16>, 4>
+pub fn all_paths(rows: &[Processor]) -> Bounded<Bounded<u8, 16>, 4>
     ensures { map items (items result) ≡ take 4 (map core_path (map core_of rows.now)) }
 {
     let mut all = Bounded::new(Bounded::new(0));
@@ -151,7 +151,7 @@ pub(crate) fn all_paths(rows: &[Processor]) -> Bounded<Bounded<u8, 16>, 4>
 }
 
 /// The source records of the processors' loads, at most 64.
-pub(crate) fn all_sources(rows: &[Processor]) -> Bounded<Source, 64>
+pub fn all_sources(rows: &[Processor]) -> Bounded<Source, 64>
     ensures { items result ≡ take 64 (flat_map core_sources (map core_of rows.now)) }
 {
     let mut all = Bounded::new(Source {

@@ -1,4 +1,4 @@
-use Rattle.std.proofs.Common.{◌≡◌, ◌-◌, ◌≤◌, length, take, drop, sym, refl, ap, ◌∙◌, arith}
+use Rattle.std.proofs.Common.{◌≤◌, length, drop, sym}
 use Rattle.std.proofs.lemmas.List.{take_rest}
 use Rattle.fields.proofs.Headers.{stated, split_whole}
 use Rattle.fields.proofs.field.split_field.Goals as goal

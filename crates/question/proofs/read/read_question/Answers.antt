@@ -1,11 +1,11 @@
-use Rattle.std.proofs.Common.{◌≡◌, ◌<◌, length, Ok, Err, sym, refl, ap, ◌∙◌, arith}
+use Rattle.std.proofs.Common.{◌≡◌, ◌<◌, length, Ok, sym, ap, ◌∙◌, arith}
 use Rattle.std.proofs.lemmas.List.{nil_from_length}
 use Rattle.std.proofs.lemmas.Result.{err_from_is_err_and}
 use Rattle.std.proofs.lemmas.Bool.{eqb-true, eqb-false}
 use Rattle.fields.specs.Rows.{read_row, field_step}
 use Rattle.fields.proofs.Rows.{step_shorter, row_end, row_more, row_fault}
 use Rattle.question.specs.Read.{question_format}
-use Rattle.question.specs.Views.{draft_of, question_read, field_read}
+use Rattle.question.specs.Views.{draft_of, field_read}
 use Rattle.question.proofs.Fields.{field_refused, field_added, field_not_added}
 use Rattle.question.proofs.read.read_question.Goals as goal
 

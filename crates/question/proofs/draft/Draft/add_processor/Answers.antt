@@ -1,9 +1,8 @@
-use Rattle.std.proofs.Common.{◌≡◌, ◌<◌, false, [], ◌∷◌, ◌++◌, map, length, Ok, Err, sym, refl, ap, ◌∙◌, arith}
+use Rattle.std.proofs.Common.{◌≡◌, ◌<◌, false, [], ◌∷◌, ◌++◌, map, length, Ok, sym, ap, ◌∙◌, arith}
 use Rattle.bounded.specs.Items.{items}
 use Rattle.std.proofs.lemmas.List.{length-map, length_push, take_all, map_push}
 use Rattle.std.proofs.lemmas.Result.{err_from_is_err_and}
 use Rattle.fields.specs.Rows.{then}
-use Rattle.question.specs.Read.{Draft}
 use Rattle.question.specs.Views.{instructions_of, draft_of, code_read}
 use Rattle.question.proofs.Drafts.{with_code, processor_tested}
 use Rattle.question.proofs.draft.Draft.add_processor.Goals as goal

@@ -1,4 +1,4 @@
-use Rattle.std.proofs.Common.{◌≡◌, ◌<◌, ◌≤◌, [], map, length, get_or, sym, ap, ◌∙◌, arith}
+use Rattle.std.proofs.Common.{◌<◌, [], map, length, get_or, sym, ap, ◌∙◌, arith}
 use Rattle.bounded.specs.Items.{items}
 use Rattle.std.proofs.lemmas.List.{length-map, length-take, get_or-map, get_or_past}
 use Rattle.question.specs.Views.{instructions_of}

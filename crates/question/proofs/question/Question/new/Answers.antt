@@ -1,9 +1,8 @@
-use Rattle.std.proofs.Common.{◌≡◌, [], ◌∷◌, ◌++◌, map, take, Ok, sym, refl, ap, ◌∙◌}
+use Rattle.std.proofs.Common.{◌≡◌, [], ◌∷◌, ◌++◌, map, take, Ok, sym, ap, ◌∙◌}
 use Rattle.bounded.specs.Items.{items}
 use Rattle.fields.specs.Rows.{read_row, read_within}
 use Rattle.question.specs.Cells.{zeros}
 use Rattle.question.specs.Codes.{code_from}
-use Rattle.question.specs.Litmus.{Litmus}
 use Rattle.question.specs.Views.{instructions_of}
 use Rattle.question.proofs.question.Question.new.Goals as goal
 
