@@ -1,3 +1,4 @@
+pub mod Computed
 pub mod FiresAddress
 pub mod FiresFetch
 pub mod FiresGo

@@ -3,3 +3,4 @@
 
 pub mod refusals;
 pub mod rules;
+pub mod worked;

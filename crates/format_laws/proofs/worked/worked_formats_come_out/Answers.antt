@@ -5,7 +5,7 @@ use Rattle.format_laws.proofs.worked.worked_formats_come_out.Goals as goal
 pub returns : goal.returns
 returns c = record {
   questions = worked_questions;
-  each-question = each_row question_found questions worked_questions;
+  each_question = each_row question_found questions worked_questions;
   witnesses = worked_witnesses;
-  each-witness = each_row witness_found witnesses worked_witnesses;
+  each_witness = each_row witness_found witnesses worked_witnesses;
 }
