@@ -6,15 +6,15 @@ use Rattle.runs.proofs.step_bytes.steps_of.Goals as goal
 pub loop-rest-preserved : goal.loop-rest-preserved
 loop-rest-preserved c =
     let h : 4 ≤ length c.loop-rest.rest.now = search rules in
-    step_joins _ c.loop-rest.rest.now _ c.loop-rest.invariant h (vec_items c.push.new.self) c.in-ok-push.ensures.items
+    step_joins _ c.loop-rest.rest.now _ c.loop-rest.invariant h (vec_items c.push.new.self) c.in_ok-push.ensures.items
 
-pub returns-then-is-empty : goal.returns-then-is-empty
-returns-then-is-empty c =
+pub returns-then-is_empty : goal.returns-then-is_empty
+returns-then-is_empty c =
     let h : length c.loop-rest.rest.now ≡ 0 = search rules in
     steps_end _ c.loop-rest.rest.now _ c.loop-rest.invariant h
 
-pub returns-else-is-empty : goal.returns-else-is-empty
-returns-else-is-empty c =
+pub returns-else-is_empty : goal.returns-else-is_empty
+returns-else-is_empty c =
     let h : 0 < length c.loop-rest.rest.now = search rules in
     let m : length c.loop-rest.rest.now < 4 = search rules in
     steps_cut _ c.loop-rest.rest.now _ c.loop-rest.invariant h m

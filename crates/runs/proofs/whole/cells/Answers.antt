@@ -5,7 +5,7 @@ use Rattle.machine.specs.Views.{closed_state}
 use Rattle.runs.specs.Records.{given, shown_cells}
 use Rattle.runs.proofs.Shown.{gathered_value, gathered_nothing}
 use Rattle.runs.proofs.whole.cells.Goals as goal
-use Rattle.runs.proofs.whole.cells.Goals.{in-Ok+in-ok-push, in-default}
+use Rattle.runs.proofs.whole.cells.Goals.{in-Ok+in-ok-push, in_default}
 
 pub loop-address-init : goal.loop-address-init
 unfolding shown_cells
@@ -21,11 +21,11 @@ loop-address-preserved g c =
       elim c.match-cell.branch [
         | in-Ok+in-ok-push w ↦
             gathered_value f n (vec_items c.loop-address.cells) (vec_items c.match-cell.cells) w.in-Ok.cell c.loop-address.invariant.0
-            (ap vec_items w.cells-is ∙ w.in-ok-push.ensures.items)
+            (ap vec_items w.cells-is ∙ w.in_ok-push.ensures.items)
             (ap given (e ∙ w.in-Ok.is))
-        | in-default w ↦
+        | in_default w ↦
             gathered_nothing f n (vec_items c.match-cell.cells) (ap vec_items w.cells-is ∙ c.loop-address.invariant.0)
-            (ap given (e ∙ w.in-default.is))
+            (ap given (e ∙ w.in_default.is))
       ],
       c.cell.ensures.same ∙ c.loop-address.invariant.1,
     )

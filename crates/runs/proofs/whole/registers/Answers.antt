@@ -4,7 +4,7 @@ use Rattle.machine.specs.Views.{closed_state}
 use Rattle.runs.specs.Records.{given, shown_registers}
 use Rattle.runs.proofs.Shown.{gathered_value, gathered_nothing}
 use Rattle.runs.proofs.whole.registers.Goals as goal
-use Rattle.runs.proofs.whole.registers.Goals.{in-Ok+in-ok-push, in-default}
+use Rattle.runs.proofs.whole.registers.Goals.{in-Ok+in-ok-push, in_default}
 
 pub loop-index-init : goal.loop-index-init
 unfolding shown_registers
@@ -19,11 +19,11 @@ loop-index-preserved g c =
     elim c.match-register.branch [
       | in-Ok+in-ok-push w ↦
           gathered_value f n (vec_items c.loop-index.values) (vec_items c.match-register.values) w.in-Ok.value c.loop-index.invariant
-          (ap vec_items w.values-is ∙ w.in-ok-push.ensures.items)
+          (ap vec_items w.values-is ∙ w.in_ok-push.ensures.items)
           (ap given (sym c.register.ensures ∙ w.in-Ok.is))
-      | in-default w ↦
+      | in_default w ↦
           gathered_nothing f n (vec_items c.match-register.values) (ap vec_items w.values-is ∙ c.loop-index.invariant)
-          (ap given (sym c.register.ensures ∙ w.in-default.is))
+          (ap given (sym c.register.ensures ∙ w.in_default.is))
     ]
 
 pub returns : goal.returns

@@ -19,7 +19,7 @@ loop-step-preserved g c =
     let value = c.step.ensures.value ∙ ap (λ l. answer (step_outcome l s st)) same in
     let state = c.step.ensures.state ∙ ap (λ l. after s (step_outcome l s st)) same in (
       c.step.ensures.question ∙ c.loop-step.invariant.0,
-      ap (λ l. l ++ answers q (open_state g.M.Memory.cells c.step.new.self) (drop (i + 1) steps)) c.in-ok-push.ensures.items
+      ap (λ l. l ++ answers q (open_state g.M.Memory.cells c.step.new.self) (drop (i + 1) steps)) c.in_ok-push.ensures.items
           ∙ append_assoc (vec_items c.loop-step.answers) _ _
           ∙ ap (λ x. vec_items c.loop-step.answers ++ x ∷ answers q (open_state g.M.Memory.cells c.step.new.self) (drop (i + 1) steps)) value
           ∙ ap (λ t. vec_items c.loop-step.answers ++ answer (step_outcome q s st) ∷ answers q t (drop (i + 1) steps)) state
