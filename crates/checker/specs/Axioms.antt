@@ -1,5 +1,5 @@
 -- The axioms: what holds of a question and a witness under an ordering rule, after Figure 15 of "Constructing a Weak Memory Model".
-use Rattle.std.specs.Prelude.{◌≡◌, ℕ, zero, suc, ◌<◌, true, ◌⊎◌, List, length, slice_index}
+use Rattle.std.specs.Prelude.{◌≡◌, ℕ, zero, suc, ◌<◌, ◌⊎◌, List, length, slice_index}
 use Rattle.instructions.specs.declared.instruction.Instruction.{Instruction}
 use Rattle.question.specs.Litmus.{Litmus, code_at}
 use Rattle.witness.specs.Execution.{Execution}
@@ -7,10 +7,10 @@ use Rattle.witness.specs.declared.record.Access.{Access}
 use Rattle.witness.specs.declared.record.Source.{Source}
 use Rattle.events.specs.declared.event.Event.{Event}
 use Rattle.events.specs.Events.{at}
-use Rattle.events.specs.Sources.{path_at, loads_before, source_at, events}
+use Rattle.events.specs.Sources.{loads_before, source_at, events}
 use Rattle.ordering.specs.Closure.{Closure}
 use Rattle.ordering.specs.Rules.{Rule}
-use Rattle.checker.specs.Terms.{access_at, event, cell, OnPath, AccessAt, LoadAt, StoreAt, Stands, Precedes}
+use Rattle.checker.specs.Terms.{access_at, event, cell, AccessAt, LoadAt, StoreAt, Stands, Precedes}
 
 -- Where the first i events of a path lead: to place 0 before the first.
 abbrev pub leads_to : List Event → ℕ → ℕ

@@ -1,5 +1,5 @@
 -- What a witness fixes: each register and each cell.
-use Rattle.std.specs.Prelude.{ℕ, Bool, ◌&&◌, List, length, Some, None, Option, ◌==◌, nat_lt, slice_index, slice_index_or}
+use Rattle.std.specs.Prelude.{ℕ, Bool, ◌&&◌, length, Some, None, Option, ◌==◌, nat_lt, slice_index, slice_index_or}
 use Rattle.instructions.specs.Kinds.{stores}
 use Rattle.memory.specs.declared.cell.Cell.{Cell}
 use Rattle.memory.specs.declared.cell.Mark.TheVariants as mark

@@ -1,5 +1,5 @@
 -- The events of a path: what each instruction that was run comes to, from those before it and the values of the loads.
-use Rattle.std.specs.Prelude.{ℕ, zero, suc, ◌%◌, Bool, cond, List, [], ◌∷◌, ◌++◌, length, Some, None, Option, slice_index, slice_index_or}
+use Rattle.std.specs.Prelude.{ℕ, zero, suc, Bool, cond, List, [], ◌∷◌, ◌++◌, length, Some, None, Option, slice_index, slice_index_or}
 use Rattle.instructions.specs.Effects.{arithmetic_result, address_sum, data_sum, next_place}
 use Rattle.instructions.specs.Kinds.{loads, first_operand, second_operand, writes}
 use Rattle.instructions.specs.declared.instruction.Instruction.{Instruction}

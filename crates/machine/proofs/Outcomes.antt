@@ -1,5 +1,5 @@
 -- What becomes of a step, by its rule and its processor.
-use Rattle.std.proofs.Common.{◌≡◌, ℕ, ◌<◌, ◌≤◌, true, false, cond, List, map, length, take, Some, None, Option, sym, refl, ap, ◌∙◌, arith}
+use Rattle.std.proofs.Common.{◌≡◌, ℕ, ◌<◌, ◌≤◌, map, length, Some, None, refl, ap, ◌∙◌, arith}
 use Rattle.std.proofs.lemmas.List.{length-take, length-map}
 use Rattle.std.proofs.lemmas.Bool.{lt-ltb, le-ltb}
 use Rattle.fields.specs.declared.refusal.Refusal.TheVariants.{RuleOrProcessorAbsent}
@@ -10,7 +10,7 @@ use Rattle.rules.specs.declared.rule.Rule.TheVariants as rule
 use Rattle.machine.specs.declared.processor.Processors.{Processors}
 use Rattle.machine.specs.declared.step.Step.{Step}
 use Rattle.machine.specs.State.{State}
-use Rattle.machine.specs.Steps.{Outcome, refused, step_outcome, numbered, by_rule, fetch_outcome, act_outcome}
+use Rattle.machine.specs.Steps.{refused, step_outcome, numbered, by_rule, fetch_outcome, act_outcome}
 use Rattle.machine.specs.Views.{core_of, cores_of}
 
 -- The first n of four processors are n.

@@ -12,8 +12,6 @@ use Rattle.rules.specs.Act.{instruction_at}
 use Rattle.rules.specs.Changes.{only, load_change}
 use Rattle.rules.specs.Entries.{at, fresh, done_with, turned, addressed, supplied}
 use Rattle.rules.specs.Tests.{same_cell}
-use Rattle.rules.specs.declared.change.Change.{Change}
-use Rattle.rules.specs.declared.change.Cut.{Cut}
 use Rattle.rules.specs.declared.change.Effect.TheVariants.{Local, Stored}
 use Rattle.rules.specs.declared.entry.Entry.{Entry}
 use Rattle.machine.specs.declared.step.Step.{Step}

@@ -1,5 +1,5 @@
 -- What each rule does to the entry at position i of a buffer, or why it is refused.
-use Rattle.std.specs.Prelude.{ℕ, ◌+◌, ◌-◌, Bool, true, false, cond, ◌&&◌, List, length, is_some, Some, None, Ok, Err, Option, Result, ◌==◌}
+use Rattle.std.specs.Prelude.{ℕ, ◌+◌, ◌-◌, Bool, true, false, cond, ◌&&◌, List, length, Some, None, Ok, Err, Option, Result, ◌==◌}
 use Rattle.fields.specs.declared.refusal.Refusal.{Refusal}
 use Rattle.fields.specs.declared.refusal.Refusal.TheVariants.{OperandWanting, HeldBack}
 use Rattle.fields.specs.Rows.{then}
@@ -12,7 +12,6 @@ use Rattle.rules.specs.declared.change.Action.{Action}
 use Rattle.rules.specs.declared.change.Action.TheVariants.{Make, Read}
 use Rattle.rules.specs.declared.change.Change.{Change}
 use Rattle.rules.specs.declared.change.Cut.{Cut}
-use Rattle.rules.specs.declared.change.Effect.{Effect}
 use Rattle.rules.specs.declared.change.Effect.TheVariants.{Local, Loaded, Stored}
 use Rattle.rules.specs.declared.entry.Entry.{Entry}
 use Rattle.rules.specs.Entries.{at, done_with, turned, loaded, addressed, supplied}

@@ -1,5 +1,5 @@
 -- Entries: a new one, and what a rule leaves of one.
-use Rattle.std.specs.Prelude.{ℕ, Bool, true, false, List, Some, None, Option, slice_index_or}
+use Rattle.std.specs.Prelude.{ℕ, true, false, List, Some, None, slice_index_or}
 use Rattle.memory.specs.declared.cell.Mark.{Mark}
 use Rattle.memory.specs.declared.cell.Mark.TheVariants.{Start}
 use Rattle.instructions.specs.declared.instruction.Instruction.{Instruction}

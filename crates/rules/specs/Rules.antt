@@ -1,5 +1,5 @@
 -- The rules by their numbers, and which entries each is for.
-use Rattle.std.specs.Prelude.{ℕ, Bool, true, false, cond, is_some, Some, None, Option, ◌==◌}
+use Rattle.std.specs.Prelude.{ℕ, Bool, false, cond, is_some, Some, None, Option, ◌==◌}
 use Rattle.instructions.specs.Kinds.{loads, stores, access, computes, branches, fences}
 use Rattle.instructions.specs.declared.instruction.Instruction.{Instruction}
 use Rattle.rules.specs.declared.entry.Entry.{Entry}

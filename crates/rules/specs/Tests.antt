@@ -1,5 +1,5 @@
 -- What the rules look for among older and younger entries.
-use Rattle.std.specs.Prelude.{ℕ, ◌%◌, Bool, true, false, not, ◌&&◌, ◌||◌, is_some, Some, None, Option, ◌==◌}
+use Rattle.std.specs.Prelude.{ℕ, ◌%◌, Bool, false, not, ◌&&◌, ◌||◌, is_some, Some, None, Option, ◌==◌}
 use Rattle.instructions.specs.Kinds.{loads, stores, access, branches, fence_from, fence_to}
 use Rattle.instructions.specs.declared.instruction.AccessType.TheVariants as access_type
 use Rattle.instructions.specs.declared.instruction.Instruction.{Instruction}

@@ -1,4 +1,4 @@
-use Rattle.std.proofs.Common.{sym, ◌∙◌, rules}
+use Rattle.std.proofs.Common.{sym, ◌∙◌}
 use Rattle.checker.proofs.Loops.{some_none, some_more, some_hit}
 use Rattle.checker.proofs.inst_order.is_after_reached.Goals as goal
 

@@ -1,8 +1,7 @@
-use Rattle.std.proofs.Common.{◌<◌, ◌≤◌, length, get_or, sym, ap, ◌∙◌, arith}
+use Rattle.std.proofs.Common.{◌<◌, ◌≤◌, length, get_or, ap, ◌∙◌, arith}
 use mathlib.Core.Logic.{∥∥₁_elim}
 use Rattle.bounded.specs.Items.{items}
 use Rattle.std.proofs.lemmas.List.{length-take}
-use Rattle.events.specs.Sources.{events}
 use Rattle.checker.specs.Views.{asked, stated}
 use Rattle.checker.proofs.Evaluations.{row_has_events, no_row_no_events}
 use Rattle.checker.proofs.RowSets.{events_set}

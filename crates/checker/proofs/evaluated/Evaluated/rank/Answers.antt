@@ -1,4 +1,4 @@
-use Rattle.std.proofs.Common.{◌≡◌, ℕ, Bool, List, length, get_or, Option, ap, ◌∙◌, arith}
+use Rattle.std.proofs.Common.{◌≡◌, ℕ, List, length, get_or, Option, ap, ◌∙◌, arith}
 use Rattle.search.specs.Search.{nearest, passes}
 use Rattle.witness.specs.declared.record.Access.{Access}
 use Rattle.checker.specs.Terms.{access_at}

@@ -1,12 +1,11 @@
-use Rattle.std.proofs.Common.{◌≡◌, ◌<◌, map, length, get_or, take, set, Ok, Err, sym, refl, ap, ◌∙◌, arith}
-use Rattle.bounded.specs.Items.{items}
+use Rattle.std.proofs.Common.{◌<◌, length, Ok, Err, sym, refl, ap, ◌∙◌, arith}
 use Rattle.std.proofs.lemmas.Result.{err_from_is_err_and}
 use Rattle.rules.specs.Act as rules
 use Rattle.rules.specs.Changes.{load_change}
 use Rattle.rules.specs.Entries.{at}
-use Rattle.machine.specs.State.{State, Core, core_at, empty_core}
+use Rattle.machine.specs.State.{core_at}
 use Rattle.machine.specs.Steps.{answer, after, act_outcome, done, removed, changed}
-use Rattle.machine.specs.Views.{core_of, run_question, open_state}
+use Rattle.machine.specs.Views.{open_state}
 use Rattle.machine.proofs.Cores.{entries_read, few_processors, same_state}
 use Rattle.machine.proofs.open.OpenRun.act.Goals as goal
 

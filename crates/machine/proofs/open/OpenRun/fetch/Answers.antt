@@ -1,9 +1,7 @@
-use Rattle.std.proofs.Common.{◌≡◌, ◌<◌, map, length, get_or, take, set, Ok, Err, sym, refl, ap, ◌∙◌, arith}
-use Rattle.bounded.specs.Items.{items}
+use Rattle.std.proofs.Common.{◌<◌, map, length, get_or, take, set, Err, sym, refl, ap, ◌∙◌, arith}
 use Rattle.std.proofs.lemmas.Result.{err_from_is_err_and}
 use Rattle.question.specs.Litmus.{code_at}
 use Rattle.rules.specs.Act as rules
-use Rattle.machine.specs.State.{State, Core, core_at, empty_core}
 use Rattle.machine.specs.Steps.{answer, after, fetch_outcome, fetched, core_fetched}
 use Rattle.machine.specs.Views.{core_of, run_question, open_state}
 use Rattle.machine.proofs.Cores.{take_set_within, core_within, core_read, few_processors, same_state}

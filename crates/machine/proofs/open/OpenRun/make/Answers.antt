@@ -1,7 +1,6 @@
-use Rattle.std.proofs.Common.{◌≡◌, ◌<◌, map, length, get_or, take, set, sym, refl, ap, ◌∙◌, arith}
-use Rattle.machine.specs.State.{State, empty_core}
+use Rattle.std.proofs.Common.{map, length, take, set, sym, refl, ap, ◌∙◌, arith}
 use Rattle.machine.specs.Steps.{core_changed, removed}
-use Rattle.machine.specs.Views.{core_of, run_question, open_state}
+use Rattle.machine.specs.Views.{core_of, run_question}
 use Rattle.machine.proofs.Cores.{take_set_within, core_within, few_processors, same_state}
 use Rattle.machine.proofs.open.OpenRun.make.Goals as goal
 

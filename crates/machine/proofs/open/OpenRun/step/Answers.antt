@@ -1,4 +1,4 @@
-use Rattle.std.proofs.Common.{◌≡◌, ◌<◌, ◌≤◌, length, Some, sym, refl, ap, ◌∙◌, arith}
+use Rattle.std.proofs.Common.{length, Some, sym, refl, ap, ◌∙◌, arith}
 use Rattle.machine.specs.Steps.{answer, after}
 use Rattle.machine.specs.Views.{run_question, open_state}
 use Rattle.machine.proofs.Cores.{few_processors}

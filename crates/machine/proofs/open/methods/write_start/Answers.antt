@@ -1,6 +1,5 @@
-use Rattle.std.proofs.Common.{◌≡◌, ◌+◌, List, length, get_or, sym, refl, ap, ◌∙◌, subst, arith}
+use Rattle.std.proofs.Common.{◌+◌, List, sym, subst, arith}
 use Rattle.memory.specs.declared.cell.Cell.{Cell}
-use Rattle.machine.specs.State.{start_cell}
 use Rattle.machine.proofs.StartCells.{Started, started_more, started_all}
 use Rattle.machine.proofs.open.methods.write_start.Goals as goal
 

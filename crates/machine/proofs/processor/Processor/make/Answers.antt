@@ -1,9 +1,6 @@
-use Rattle.std.proofs.Common.{◌≡◌, ◌-◌, length, take, set, sym, ap, ◌∙◌, arith}
+use Rattle.std.proofs.Common.{◌≡◌, ◌-◌, length, take, ap, ◌∙◌, arith}
 use Rattle.bounded.specs.Items.{items}
 use Rattle.std.proofs.lemmas.List.{length-take, length-set}
-use Rattle.machine.specs.State.{Core}
-use Rattle.machine.specs.Steps.{core_changed, removed}
-use Rattle.machine.specs.Views.{core_of}
 use Rattle.machine.proofs.processor.Processor.make.Goals as goal
 
 pub overflow_sub-result : goal.overflow_sub-result

@@ -1,4 +1,4 @@
-use Rattle.std.proofs.Common.{◌<◌, length, sym, ap, ◌∙◌, arith}
+use Rattle.std.proofs.Common.{◌<◌, length, ap, ◌∙◌, arith}
 use Rattle.machine.specs.Steps.{core_changed, removed}
 use Rattle.machine.proofs.Cores.{core_read, core_put}
 use Rattle.machine.proofs.processor.Processors.make.Goals as goal
