@@ -5,7 +5,7 @@ use Rattle.machine.specs.Views.{closed_state}
 use Rattle.runs.specs.Records.{given, shown_cells}
 use Rattle.runs.proofs.Shown.{gathered_value, gathered_nothing}
 use Rattle.runs.proofs.whole.cells.Goals as goal
-use Rattle.runs.proofs.whole.cells.Goals.{in-Ok+in-ok-push, in_default}
+use Rattle.runs.proofs.whole.cells.Goals.{in-Ok+in_ok-push, in_default}
 
 pub loop-address-init : goal.loop-address-init
 unfolding shown_cells
@@ -19,7 +19,7 @@ loop-address-preserved g c =
     let n = c.loop-address.address in
     let e = sym (ap (λ r. cell_answer r n) c.loop-address.invariant.1) ∙ sym c.cell.ensures.value in (
       elim c.match-cell.branch [
-        | in-Ok+in-ok-push w ↦
+        | in-Ok+in_ok-push w ↦
             gathered_value f n (vec_items c.loop-address.cells) (vec_items c.match-cell.cells) w.in-Ok.cell c.loop-address.invariant.0
             (ap vec_items w.cells-is ∙ w.in_ok-push.ensures.items)
             (ap given (e ∙ w.in-Ok.is))

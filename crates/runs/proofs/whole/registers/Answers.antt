@@ -4,7 +4,7 @@ use Rattle.machine.specs.Views.{closed_state}
 use Rattle.runs.specs.Records.{given, shown_registers}
 use Rattle.runs.proofs.Shown.{gathered_value, gathered_nothing}
 use Rattle.runs.proofs.whole.registers.Goals as goal
-use Rattle.runs.proofs.whole.registers.Goals.{in-Ok+in-ok-push, in_default}
+use Rattle.runs.proofs.whole.registers.Goals.{in-Ok+in_ok-push, in_default}
 
 pub loop-index-init : goal.loop-index-init
 unfolding shown_registers
@@ -17,7 +17,7 @@ loop-index-preserved g c =
     let f : ℕ → List ℕ = λ k. given (register_answer run (k / 8) (k % 8)) in
     let n = c.loop-index.index in
     elim c.match-register.branch [
-      | in-Ok+in-ok-push w ↦
+      | in-Ok+in_ok-push w ↦
           gathered_value f n (vec_items c.loop-index.values) (vec_items c.match-register.values) w.in-Ok.value c.loop-index.invariant
           (ap vec_items w.values-is ∙ w.in_ok-push.ensures.items)
           (ap given (sym c.register.ensures ∙ w.in-Ok.is))

@@ -16,7 +16,7 @@ returns-in-Ok g c f =
     let v = answer_with_room run (replicate 512 0) f (omega arith) in
     let n : c.in-Ok.length ≡ length (bytes_of run.execution) = cc (c.witness.ensures.value, c.in-Ok.is, v) in
     let a = c.witness.ensures.area ∙ area_with_room run (replicate 512 0) f (omega arith) in
-    IfOk-weaker c.from_slice.result _ _ (λ x h. h.0 ∙ front_of_area (bytes_of run.execution) _ _ c.in-Ok.length n a) c.from_slice.ensures.made
+    IfOk-weaker c.from_slice.result _ _ (λ x h. h ∙ front_of_area (bytes_of run.execution) _ _ c.in-Ok.length n a) c.from_slice.ensures.items
 
 pub returns-in-Err : goal.returns-in-Err
 returns-in-Err g c f =
