@@ -40,7 +40,7 @@ def without_comments(text):
 
 
 def in_function_folder(f):
-    return os.path.basename(f) in ("Answers.antt", "Invariants.antt", "Proof.antt")
+    return "/proofs/" in f and os.path.basename(f) in ("Answers.antt", "Invariants.antt", "Proof.antt")
 
 
 def ours():

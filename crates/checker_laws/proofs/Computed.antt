@@ -1,6 +1,6 @@
 -- The worked verdicts, by computation.
 use Rattle.std.proofs.Common.{◌≡◌, List, [], ◌∷◌, map, refl}
-use Rattle.std.specs.List.{AllByRecursion as All}
+use Rattle.std.specs.List.{AllByRecursion}
 use Rattle.search.specs.Search.{nearest}
 use Rattle.events.specs.Events.{events_upto}
 use Rattle.events.specs.Sources.{loads_upto, loads_before}
@@ -14,7 +14,7 @@ unfolding nearest events_upto loads_upto loads_before some_below sa_mem_st sa_st
 worked_verdicts = refl
 
 -- Rows that come out together come out one by one.
-each_row : (rows : List Case) → map given rows ≡ map expected rows → All (λ c. given c ≡ expected c) rows
+each_row : (rows : List Case) → map given rows ≡ map expected rows → AllByRecursion (λ c. given c ≡ expected c) rows
 each_row [] h = tt
 each_row (c ∷ rows) h = (cc, each_row rows cc)
 

@@ -1,6 +1,6 @@
 -- Witnesses worked through by hand, with their verdicts under GAM and under SC.
 use Rattle.std.specs.Prelude.{◌≡◌, ℕ, List, [], ◌∷◌, ◌++◌, map, replicate, Some, None}
-use Rattle.std.specs.List.{AllByRecursion as All}
+use Rattle.std.specs.List.{AllByRecursion}
 use Rattle.instructions.specs.declared.instruction.AccessType.TheVariants as access_type
 use Rattle.instructions.specs.declared.instruction.Instruction.{Instruction}
 use Rattle.instructions.specs.declared.instruction.Instruction.TheVariants.{Add, Subtract, Load, Store, Branch, Fence}
@@ -159,4 +159,4 @@ WorkedVerdictsComeOut = map given cases ≡ map expected cases
 
 -- The same, row by row.
 abbrev pub EachWorkedVerdictComesOut : Type 0
-EachWorkedVerdictComesOut = All (λ c. given c ≡ expected c) cases
+EachWorkedVerdictComesOut = AllByRecursion (λ c. given c ≡ expected c) cases

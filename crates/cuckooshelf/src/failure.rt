@@ -67,7 +67,7 @@ impl fmt::Display for Failure {
             }
             Failure::MemoryWanting => write!(
                 f,
-                "behind the files may stand --memory table or --memory list"
+                "two files, then at most --memory table or --memory list"
             ),
             Failure::UnknownOption(word) => write!(
                 f,

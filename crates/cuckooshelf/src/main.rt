@@ -117,8 +117,7 @@ fn stated_mark(operands: &[String]) -> Result<MarkAnswer<'_>, Failure> {
             answer: answer.as_str(),
             memory: memory(option, name)?,
         }),
-        [] | [_] | [_, _] => Err(Failure::MarkWanting),
-        [_, _, _, _] => Err(Failure::MemoryWanting),
+        [] | [_] | [_, _] | [_, _, _, _] => Err(Failure::MarkWanting),
         _ => Err(Failure::TooManyOperands),
     }
 }

@@ -1,6 +1,6 @@
 -- A row is read exactly if it is well formed, as what it means, and refused exactly for its first fault.
 use Rattle.std.proofs.Common.{◌≡◌, ℕ, zero, suc, ◌/◌, ◌%◌, ◌<◌, ◌≤◌, Bool, true, false, cond, ltb, List, [], ◌∷◌, ◌++◌, length, take, drop, Ok, Err, Result, sym, refl, ap, ◌∙◌, inl, inr, arith}
-use Rattle.std.specs.List.{AllByRecursion as All}
+use Rattle.std.specs.List.{AllByRecursion}
 use Rattle.std.proofs.lemmas.List.{length-append, length-take-le, take-append-drop}
 use Rattle.std.proofs.ByRecursion.{All-drop}
 use Rattle.std.proofs.lemmas.Bool.{le-ltb, lt-ltb, ltb-true, ltb-false}
@@ -36,10 +36,10 @@ split_front tag contents rest =
 pub record InFront (b : List ℕ) (c : Cut) : Type 0 where
   pub front : b ≡ field_bytes c.tag c.contents ++ c.rest
   pub short : length c.contents < 65536
-  pub bytes : All (λ x. x < 256) c.rest
+  pub bytes : AllByRecursion (λ x. x < 256) c.rest
 
 -- A field that is cut off was in front of the bytes behind it.
-pub split_in_front : (b : List ℕ) (c : Cut) → All (λ x. x < 256) b → split_field b ≡ Ok c → InFront b c
+pub split_in_front : (b : List ℕ) (c : Cut) → AllByRecursion (λ x. x < 256) b → split_field b ≡ Ok c → InFront b c
 split_in_front [] c w h = absurd (let z : ◌≡◌ {A = ℕ} 0 1 = cc in omega arith)
 split_in_front (tag ∷ []) c w h = absurd (let z : ◌≡◌ {A = ℕ} 0 1 = cc in omega arith)
 split_in_front (tag ∷ high ∷ []) c w h = absurd (let z : ◌≡◌ {A = ℕ} 0 1 = cc in omega arith)
@@ -133,7 +133,7 @@ module _ {S V : Type 0} (F : Format S V) where
           let d : TagNotAllowed ≡ e = cc in rw (← d) (Faults.bad_tag c.tag c.contents c.rest w.short p)
 
   -- A step that is refused found the first fault.
-  step_fault : (s : S) (e : Refusal) (b : List ℕ) → 0 < length b → All (λ x. x < 256) b → field_step F s b ≡ Err e → Faults F s b e
+  step_fault : (s : S) (e : Refusal) (b : List ℕ) → 0 < length b → AllByRecursion (λ x. x < 256) b → field_step F s b ≡ Err e → Faults F s b e
   step_fault s e b l w h =
       elim (then_err (split_field b) (λ c. then (tested F s c) (λ t. Ok (t, c.rest))) e h) [
         | inl p ↦ let q = split_past b e l p in rw q.1 (Faults.past_input q.0)
@@ -151,10 +151,10 @@ module _ {S V : Type 0} (F : Format S V) where
     pub front : b ≡ field_bytes tag contents ++ r
     pub short : length contents < 65536
     pub passed : Passed s (record { tag = tag; contents = contents; rest = r }) t
-    pub bytes : All (λ x. x < 256) r
+    pub bytes : AllByRecursion (λ x. x < 256) r
 
   -- A step that goes on takes a field that passes its tests.
-  pub step_takes : (s t : S) (b r : List ℕ) → All (λ x. x < 256) b → field_step F s b ≡ Ok (t, r) → Takes s b t r
+  pub step_takes : (s t : S) (b r : List ℕ) → AllByRecursion (λ x. x < 256) b → field_step F s b ≡ Ok (t, r) → Takes s b t r
   step_takes s t b r w h =
       let p = step_parts F b r s t h in
       let c = p.0 in
@@ -170,13 +170,13 @@ module _ {S V : Type 0} (F : Format S V) where
       }
 
   -- A row that is read is well formed, for bytes of which there are at most n.
-  reads_within : (n : ℕ) (s : S) (b : List ℕ) (v : V) → length b ≤ n → All (λ x. x < 256) b → read_row F s b ≡ Ok v → Reads F s b v
+  reads_within : (n : ℕ) (s : S) (b : List ℕ) (v : V) → length b ≤ n → AllByRecursion (λ x. x < 256) b → read_row F s b ≡ Ok v → Reads F s b v
   reads_within n s [] v l w h = Reads.at_end (rw (row_end F s) at h)
   reads_within zero s (x ∷ b) v l w h = absurd (omega arith)
   reads_within (suc n) s (x ∷ b) v l w h = go (field_step F s (x ∷ b)) refl (λ t r. reads_within n t r v)
     where
       go : (a : Result (S × List ℕ) Refusal) → field_step F s (x ∷ b) ≡ a →
-          ((t : S) (r : List ℕ) → length r ≤ n → All (λ y. y < 256) r → read_row F t r ≡ Ok v → Reads F t r v) → Reads F s (x ∷ b) v
+          ((t : S) (r : List ℕ) → length r ≤ n → AllByRecursion (λ y. y < 256) r → read_row F t r ≡ Ok v → Reads F t r v) → Reads F s (x ∷ b) v
       go (Ok p) e f =
           let g = step_takes s p.0 (x ∷ b) p.1 w e in
           let k = step_shorter F (x ∷ b) p.1 s p.0 e in
@@ -187,13 +187,13 @@ module _ {S V : Type 0} (F : Format S V) where
       go (Err d) e f = let q = row_fault F (x ∷ b) s d (omega arith) e in absurd (let z : ◌≡◌ {A = ℕ} 0 1 = cc in omega arith)
 
   -- A row that is refused has that fault first, for bytes of which there are at most n.
-  faults_within : (n : ℕ) (s : S) (b : List ℕ) (d : Refusal) → length b ≤ n → All (λ x. x < 256) b → read_row F s b ≡ Err d → Faults F s b d
+  faults_within : (n : ℕ) (s : S) (b : List ℕ) (d : Refusal) → length b ≤ n → AllByRecursion (λ x. x < 256) b → read_row F s b ≡ Err d → Faults F s b d
   faults_within n s [] d l w h = Faults.missing (rw (row_end F s) at h)
   faults_within zero s (x ∷ b) d l w h = absurd (omega arith)
   faults_within (suc n) s (x ∷ b) d l w h = go (field_step F s (x ∷ b)) refl (λ t r. faults_within n t r d)
     where
       go : (a : Result (S × List ℕ) Refusal) → field_step F s (x ∷ b) ≡ a →
-          ((t : S) (r : List ℕ) → length r ≤ n → All (λ y. y < 256) r → read_row F t r ≡ Err d → Faults F t r d) → Faults F s (x ∷ b) d
+          ((t : S) (r : List ℕ) → length r ≤ n → AllByRecursion (λ y. y < 256) r → read_row F t r ≡ Err d → Faults F t r d) → Faults F s (x ∷ b) d
       go (Ok p) e f =
           let g = step_takes s p.0 (x ∷ b) p.1 w e in
           let k = step_shorter F (x ∷ b) p.1 s p.0 e in

@@ -1,6 +1,6 @@
 -- A row of fields: how it is read, what it means and which fault is found first.
 use Rattle.std.specs.Prelude.{◌≡◌, ℕ, zero, suc, ◌<◌, Bool, true, false, cond, ◌↔◌, List, [], ◌∷◌, ◌++◌, length, Ok, Err, Result}
-use Rattle.std.specs.List.{AllByRecursion as All}
+use Rattle.std.specs.List.{AllByRecursion}
 use Rattle.fields.specs.declared.refusal.Refusal.{Refusal}
 use Rattle.fields.specs.declared.refusal.Refusal.TheVariants.{FieldPastInput, TagNotAllowed, LengthNotAllowed}
 use Rattle.fields.specs.Fields.{Cut, word, field_bytes, split_field}
@@ -74,5 +74,5 @@ module _ {S V : Type 0} (F : Format S V) where
 -- Of every list of bytes: a row is read exactly if it is well formed, as what it means, and refused exactly for its first fault.
 abbrev pub RowsAreReadAsTheyMean : {S V : Type 0} → Format S V → S → Type 0
 RowsAreReadAsTheyMean {S} {V} F s =
-    (b : List ℕ) → All (λ x. x < 256) b →
+    (b : List ℕ) → AllByRecursion (λ x. x < 256) b →
     ((v : V) → (read_row F s b ≡ Ok v) ↔ Reads F s b v) × ((e : Refusal) → (read_row F s b ≡ Err e) ↔ Faults F s b e)

@@ -1,6 +1,6 @@
 -- The start values of the cells are read from exactly the bytes of rising records.
 use Rattle.std.proofs.Common.{◌≡◌, ℕ, suc, ◌+◌, ◌*◌, ◌/◌, ◌%◌, ◌<◌, ◌≤◌, Bool, true, false, cond, ◌&&◌, eqb, ltb, leb, ◌⊎◌, List, [], ◌∷◌, length, set, Ok, Err, Result, refl, ap, inl, inr, arith}
-use Rattle.std.specs.List.{flat_map, AllByRecursion as All}
+use Rattle.std.specs.List.{flat_map, AllByRecursion}
 use Rattle.std.proofs.lemmas.Bool.{leb-true, ltb-true, eqb-true, le-leb, lt-ltb, eq-eqb, and_from, and_parts}
 use Rattle.fields.specs.declared.refusal.Refusal.{Refusal}
 use Rattle.fields.specs.declared.refusal.Refusal.TheVariants.{CellAddressNotAllowed}
@@ -52,7 +52,7 @@ recorded_more least address high low cells b s w l u c =
     }
 
 -- Whole records that are read are rising ones.
-cells_states : (least : ℕ) (cells b s : List ℕ) → length b % 3 ≡ 0 → All (λ x. x < 256) b → cells_from least cells b ≡ Ok s → Recorded least cells b s
+cells_states : (least : ℕ) (cells b s : List ℕ) → length b % 3 ≡ 0 → AllByRecursion (λ x. x < 256) b → cells_from least cells b ≡ Ok s → Recorded least cells b s
 unfolding cells_from
 cells_states least cells [] s l w h = record { records = []; bytes = refl; rising = tt; made = cc }
 cells_states least cells (address ∷ []) s l w h = absurd (omega arith)
@@ -83,7 +83,7 @@ pub length_rising : (rs : List Start) → Rising 0 rs → length (flat_map start
 length_rising rs h = let l = length_records rs in let m = rising_few 0 rs (omega arith) h in omega arith
 
 -- The contents of a cell field that is read are the bytes of rising records.
-pub contents_cells : (b s : List ℕ) → cells_fit (length b) ≡ true → All (λ x. x < 256) b → cells_from 0 zeros b ≡ Ok s → Recorded 0 zeros b s
+pub contents_cells : (b s : List ℕ) → cells_fit (length b) ≡ true → AllByRecursion (λ x. x < 256) b → cells_from 0 zeros b ≡ Ok s → Recorded 0 zeros b s
 contents_cells b s f w h =
     let p = and_parts (leb (length b) 48) (eqb (length b % 3) 0) f in
     cells_states 0 zeros b s (eqb-true (length b % 3) 0 p.1) w h

@@ -1,6 +1,6 @@
 -- A processor's instructions are read from exactly their own bytes.
 use Rattle.std.proofs.Common.{◌≡◌, ℕ, zero, suc, ◌*◌, ◌/◌, ◌%◌, ◌<◌, true, eqb, leb, List, [], ◌∷◌, ◌++◌, length, take, drop, Ok, sym, refl, ap, ◌∙◌, arith}
-use Rattle.std.specs.List.{flat_map, AllByRecursion as All}
+use Rattle.std.specs.List.{flat_map, AllByRecursion}
 use Rattle.std.proofs.ByRecursion.{All-take, All-drop}
 use Rattle.std.proofs.lemmas.List.{length-append, length-drop, length-take-le, take_at, drop_at, take-append-drop, nil_from_length}
 use Rattle.std.proofs.lemmas.Bool.{leb-true, eqb-true, le-leb, eq-eqb, and_from, and_parts}
@@ -52,7 +52,7 @@ record Coded (n m : ℕ) (b : List ℕ) (is : List Instruction) : Type 0 where
   sound : all_sound n is ≡ true
 
 -- Bytes that are read as instructions are theirs.
-code_states : (n m : ℕ) (b : List ℕ) (is : List Instruction) → length b ≡ 8 * m → All (λ x. x < 256) b → code_from n m b ≡ Ok is → Coded n m b is
+code_states : (n m : ℕ) (b : List ℕ) (is : List Instruction) → length b ≡ 8 * m → AllByRecursion (λ x. x < 256) b → code_from n m b ≡ Ok is → Coded n m b is
 unfolding code_from
 code_states n zero b is l w h =
     let e : is ≡ [] = cc in
@@ -72,7 +72,7 @@ code_states n (suc m) b is l w h =
     })
 
 -- The contents of a processor field that is read are the bytes of allowed instructions.
-pub contents_code : (b : List ℕ) (is : List Instruction) → code_fits (length b) ≡ true → All (λ x. x < 256) b → code_of b ≡ Ok is →
+pub contents_code : (b : List ℕ) (is : List Instruction) → code_fits (length b) ≡ true → AllByRecursion (λ x. x < 256) b → code_of b ≡ Ok is →
     (b ≡ flat_map instruction_bytes is) × CodeAllowed is
 unfolding code_sound
 contents_code b is f w h =

@@ -1,6 +1,6 @@
 -- An instruction is read from exactly its own eight bytes.
 use Rattle.std.proofs.Common.{◌≡◌, ℕ, zero, suc, ◌/◌, ◌%◌, ◌<◌, Bool, true, false, cond, ◌&&◌, ◌||◌, eqb, ltb, leb, List, [], ◌∷◌, length, get_or, Ok, Err, sym, refl, subst, inl, inr, arith}
-use Rattle.std.specs.List.{AllByRecursion as All}
+use Rattle.std.specs.List.{AllByRecursion}
 use Rattle.std.proofs.lemmas.List.FromFn.{fill_by_all}
 use Rattle.std.proofs.ByRecursion.{All-get_or}
 use Rattle.std.proofs.lemmas.Bool.{ltb-true, eqb-true, false≢true, and_parts, or_cases}
@@ -171,7 +171,7 @@ eight_listed : (b : List ℕ) → length b ≡ 8 → b ≡ listed b
 eight_listed b l = fill_by_all (λ k. get_or b k 0) b 8 0 l (λ k _. refl)
 
 -- Eight bytes that are read are those of a sound instruction.
-pub instruction_states : (n : ℕ) (b : List ℕ) (i : Instruction) → length b ≡ 8 → All (λ x. x < 256) b → instruction_of n b ≡ Ok i → States n b i
+pub instruction_states : (n : ℕ) (b : List ℕ) (i : Instruction) → length b ≡ 8 → AllByRecursion (λ x. x < 256) b → instruction_of n b ≡ Ok i → States n b i
 unfolding instruction_of
 instruction_states n b i l w h =
     let at = λ (k : ℕ) (s : k < length b). All-get_or (λ x. x < 256) b k 0 s w in

@@ -1,6 +1,6 @@
 -- A question is read exactly if it is well formed, as the litmus test that it means.
 use Rattle.std.proofs.Common.{◌≡◌, ℕ, ◌<◌, Bool, true, false, eqb, List, [], ◌++◌, length, Ok, sym, refl, ap, ◌∙◌, arith}
-use Rattle.std.specs.List.{flat_map, AllByRecursion as All}
+use Rattle.std.specs.List.{flat_map, AllByRecursion}
 use Rattle.std.proofs.lemmas.Bool.{eqb-true}
 use Rattle.fields.specs.Fields.{field_bytes}
 use Rattle.fields.specs.Rows.{Reads}
@@ -24,7 +24,7 @@ record CellsTaken (t : Draft) (contents : List ℕ) : Type 0 where
   then_is : with_start start ≡ t
 
 -- A cell field that is taken.
-cells_taken : (t : Draft) (tag : ℕ) (contents : List ℕ) → tag ≡ cell_tag → All (λ x. x < 256) contents →
+cells_taken : (t : Draft) (tag : ℕ) (contents : List ℕ) → tag ≡ cell_tag → AllByRecursion (λ x. x < 256) contents →
     question_fits tag (length contents) ≡ true → question_taken no_fields tag contents ≡ Ok t → CellsTaken t contents
 cells_taken t tag contents e w f k =
     let p = then_ok (cells_from 0 zeros contents) (λ start. Ok (with_start start)) t (rw e at k) in
@@ -45,12 +45,12 @@ means_without_cells : (b : List ℕ) (l : Litmus) → More no_fields b l → Mea
 means_without_cells b l m = rw (m.bytes, ← m.means) (Means.without_cells m.code (omega arith, omega arith, m.allowed))
 
 -- A well-formed row of fields is a well-formed question.
-reads_means : (b : List ℕ) (l : Litmus) → All (λ x. x < 256) b → Reads question_format no_fields b l → Means b l
+reads_means : (b : List ℕ) (l : Litmus) → AllByRecursion (λ x. x < 256) b → Reads question_format no_fields b l → Means b l
 reads_means _ l w (Reads.at_end h) = absurd (let z : ◌≡◌ {A = ℕ} 0 1 = cc in omega arith)
 reads_means _ l w (Reads.field_first tag contents rest t short allowed fits taken reads) =
     go (eqb tag cell_tag) refl
   where
-    v : All (λ x. x < 256) contents × All (λ x. x < 256) rest
+    v : AllByRecursion (λ x. x < 256) contents × AllByRecursion (λ x. x < 256) rest
     v = all_parts (λ x. x < 256) contents rest w.1.1.1
 
     go : (q : Bool) → eqb tag cell_tag ≡ q → Means (field_bytes tag contents ++ rest) l

@@ -1,6 +1,6 @@
 -- Processor fields are read from exactly the bytes of allowed instructions.
 use Rattle.std.proofs.Common.{◌≡◌, ℕ, ◌+◌, ◌<◌, ◌≤◌, Bool, true, false, cond, ◌&&◌, eqb, ltb, List, [], ◌∷◌, ◌++◌, length, Ok, Err, sym, refl, ap, ◌∙◌, arith}
-use Rattle.std.specs.List.{flat_map, AllByRecursion as All}
+use Rattle.std.specs.List.{flat_map, AllByRecursion}
 use Rattle.std.proofs.lemmas.List.{append-nil, append_assoc, length_push}
 use Rattle.std.proofs.lemmas.Bool.{ltb-true, eqb-true, lt-ltb, false≢true, and_parts}
 use Rattle.fields.specs.declared.refusal.Refusal.TheVariants.{TagNotAllowed}
@@ -16,7 +16,7 @@ use Rattle.question.specs.Means.{CodeAllowed, processor_bytes}
 use Rattle.format_laws.proofs.Codes.{length_code, contents_code, code_contents}
 
 -- What holds of the elements of two joined lists holds of each list's.
-pub all_parts : {X : Type 0} (P : X → Type 0) (xs ys : List X) → All P (xs ++ ys) → All P xs × All P ys
+pub all_parts : {X : Type 0} (P : X → Type 0) (xs ys : List X) → AllByRecursion P (xs ++ ys) → AllByRecursion P xs × AllByRecursion P ys
 all_parts P [] ys h = (tt, h)
 all_parts P (x ∷ xs) ys h = let p = all_parts P xs ys h.1 in ((h.0, p.0), p.1)
 
@@ -32,7 +32,7 @@ pub record ProcessorTaken (s t : Draft) (contents : List ℕ) : Type 0 where
   pub then_is : with_code s instructions ≡ t
 
 -- A processor field that is taken.
-pub processor_taken : (s t : Draft) (tag : ℕ) (contents : List ℕ) → tag ≡ processor_tag → All (λ x. x < 256) contents →
+pub processor_taken : (s t : Draft) (tag : ℕ) (contents : List ℕ) → tag ≡ processor_tag → AllByRecursion (λ x. x < 256) contents →
     question_fits tag (length contents) ≡ true → question_taken s tag contents ≡ Ok t → ProcessorTaken s t contents
 processor_taken s t tag contents e w f k =
     let p = then_ok (code_of contents) (λ is. Ok (with_code s is)) t (rw e at k) in
@@ -63,7 +63,7 @@ pub record More (s : Draft) (b : List ℕ) (l : Litmus) : Type 0 where
   pub code : List (List Instruction)
   pub bytes : b ≡ flat_map processor_bytes code
   pub means : litmus s (s.code ++ code) ≡ l
-  pub allowed : All CodeAllowed code
+  pub allowed : AllByRecursion CodeAllowed code
   pub some : 1 ≤ length s.code + length code
   pub few : length s.code + length code ≤ 4
 
@@ -95,7 +95,7 @@ more_next s t contents rest l p m =
     }
 
 -- Fields behind the first are processor fields.
-pub reads_more : (s : Draft) (b : List ℕ) (l : Litmus) → s.empty ≡ false → length s.code ≤ 4 → All (λ x. x < 256) b →
+pub reads_more : (s : Draft) (b : List ℕ) (l : Litmus) → s.empty ≡ false → length s.code ≤ 4 → AllByRecursion (λ x. x < 256) b →
     Reads question_format s b l → More s b l
 reads_more s _ l e f w (Reads.at_end h) = more_none s l f h
 reads_more s _ l e f w (Reads.field_first tag contents rest t short allowed fits taken reads) =
@@ -107,7 +107,7 @@ reads_more s _ l e f w (Reads.field_first tag contents rest t short allowed fits
     rw n.0 (more_next s t contents rest l p m)
 
 -- Processor fields of allowed instructions are read.
-pub more_reads : (s : Draft) (code : List (List Instruction)) → All CodeAllowed code → 1 ≤ length s.code + length code → length s.code + length code ≤ 4 →
+pub more_reads : (s : Draft) (code : List (List Instruction)) → AllByRecursion CodeAllowed code → 1 ≤ length s.code + length code → length s.code + length code ≤ 4 →
     Reads question_format s (flat_map processor_bytes code) (litmus s (s.code ++ code))
 more_reads s [] a o f =
     let h : question_whole s ≡ Ok (litmus s s.code) = rw (lt-ltb 0 (length s.code) (omega arith)) in

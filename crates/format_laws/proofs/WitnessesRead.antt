@@ -1,6 +1,6 @@
 -- A well-formed witness is the bytes of the execution that it means.
 use Rattle.std.proofs.Common.{◌≡◌, ℕ, ◌+◌, ◌%◌, ◌<◌, ◌≤◌, Bool, true, false, cond, ◌&&◌, eqb, ltb, leb, ◌⊎◌, List, [], ◌∷◌, ◌++◌, length, Some, None, Ok, sym, refl, ap, inl, inr, arith}
-use Rattle.std.specs.List.{flat_map, AllByRecursion as All}
+use Rattle.std.specs.List.{flat_map, AllByRecursion}
 use Rattle.std.proofs.lemmas.List.{append_assoc, append-nil, length-append}
 use Rattle.std.proofs.lemmas.Bool.{ltb-true, leb-true, eqb-true, and_parts}
 use Rattle.fields.specs.Fields.{field_bytes}
@@ -68,7 +68,7 @@ record PathsNext (qs : List (List ℕ)) (b : List ℕ) (w : Execution) : Type 0 
   means : w ≡ record { paths = qs ++ paths; sources = sources_from sources; order = accesses_from order }
   some : 0 < length (qs ++ paths)
   few : length (qs ++ paths) ≤ 4
-  short : All (λ p. length p ≤ 16) paths
+  short : AllByRecursion (λ p. length p ≤ 16) paths
   sources_fit : witness_fits source_tag (length sources) ≡ true
   order_fits : witness_fits order_tag (length order) ≡ true
 
@@ -156,21 +156,21 @@ after_paths s qs _ w d few (Reads.field_first tag c rest t l a f k more) =
     field_behind qs tag c rest t w few (rw d at a) f (rw d at k) more (λ r m. after_paths t (qs ++ c ∷ []) rest w r m more)
 
 -- What holds of each element of joined lists holds of the first list's.
-all_front : {X : Type 0} (Q : X → Type 0) (xs ys : List X) → All Q (xs ++ ys) → All Q xs
+all_front : {X : Type 0} (Q : X → Type 0) (xs ys : List X) → AllByRecursion Q (xs ++ ys) → AllByRecursion Q xs
 all_front Q [] ys h = tt
 all_front Q (x ∷ xs) ys h = (h.0, all_front Q xs ys h.1)
 
 -- It holds of the second list's.
-all_behind : {X : Type 0} (Q : X → Type 0) (xs ys : List X) → All Q (xs ++ ys) → All Q ys
+all_behind : {X : Type 0} (Q : X → Type 0) (xs ys : List X) → AllByRecursion Q (xs ++ ys) → AllByRecursion Q ys
 all_behind Q [] ys h = h
 all_behind Q (x ∷ xs) ys h = all_behind Q xs ys h.1
 
 -- The contents of the source field are bytes.
-source_contents : (ps : List ℕ) (s o : List ℕ) → All (λ x. x < 256) (ps ++ (field_bytes source_tag s ++ o)) → All (λ x. x < 256) s
+source_contents : (ps : List ℕ) (s o : List ℕ) → AllByRecursion (λ x. x < 256) (ps ++ (field_bytes source_tag s ++ o)) → AllByRecursion (λ x. x < 256) s
 source_contents ps s o h =
     (all_front (λ x. x < 256) (field_bytes source_tag s) o (all_behind (λ x. x < 256) ps (field_bytes source_tag s ++ o) h)).1.1.1
 
-module _ (b : List ℕ) (w : Execution) (n : PathsNext [] b w) (bytes : All (λ x. x < 256) b) where
+module _ (b : List ℕ) (w : Execution) (n : PathsNext [] b w) (bytes : AllByRecursion (λ x. x < 256) b) where
   -- The execution that the fields state.
   abbrev stated : Execution
   stated = record { paths = n.paths; sources = sources_from n.sources; order = accesses_from n.order }
@@ -222,5 +222,5 @@ module _ (b : List ℕ) (w : Execution) (n : PathsNext [] b w) (bytes : All (λ 
   encoded = rw n.means (stated_within, stated_bytes)
 
 -- A well-formed witness is the bytes of the execution that it means, which is within the bounds.
-pub read_means : (b : List ℕ) → All (λ x. x < 256) b → (w : Execution) → Reads witness_format no_fields b w → Within w × (b ≡ bytes_of w)
+pub read_means : (b : List ℕ) → AllByRecursion (λ x. x < 256) b → (w : Execution) → Reads witness_format no_fields b w → Within w × (b ≡ bytes_of w)
 read_means b h w r = encoded b w (after_paths no_fields [] b w refl (omega arith) r) h

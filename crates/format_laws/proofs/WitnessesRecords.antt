@@ -1,6 +1,6 @@
 -- The records of a witness and their bytes are each other's inverse.
 use Rattle.std.proofs.Common.{◌≡◌, ℕ, ◌*◌, ◌/◌, ◌%◌, ◌<◌, List, [], ◌∷◌, length, refl, arith}
-use Rattle.std.specs.List.{flat_map, AllByRecursion as All}
+use Rattle.std.specs.List.{flat_map, AllByRecursion}
 use Rattle.fields.specs.Fields.{word}
 use Rattle.witness.specs.declared.record.Access.{Access}
 use Rattle.witness.specs.declared.record.Source.{Source}
@@ -26,7 +26,7 @@ pub record WholeRecords {X : Type 0} (bytes : X → List ℕ) (size : ℕ) (xs :
   pub number : size * length xs ≡ length b
 
 -- Bytes of whole records are the bytes of their sources.
-pub whole_sources : (b : List ℕ) → All (λ x. x < 256) b → length b % 4 ≡ 0 → WholeRecords source_bytes 4 (sources_from b) b
+pub whole_sources : (b : List ℕ) → AllByRecursion (λ x. x < 256) b → length b % 4 ≡ 0 → WholeRecords source_bytes 4 (sources_from b) b
 unfolding sources_from
 whole_sources [] h l = record { same = refl; number = refl }
 whole_sources (p ∷ []) h l = absurd (omega arith)

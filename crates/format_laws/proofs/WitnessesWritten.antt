@@ -1,6 +1,6 @@
 -- The bytes of an execution within the bounds are a well-formed witness that means it.
 use Rattle.std.proofs.Common.{◌≡◌, ℕ, ◌+◌, ◌%◌, ◌≤◌, true, List, [], ◌∷◌, ◌++◌, length, Some, None, Ok, refl, arith}
-use Rattle.std.specs.List.{flat_map, AllByRecursion as All}
+use Rattle.std.specs.List.{flat_map, AllByRecursion}
 use Rattle.std.proofs.lemmas.List.{append_assoc, append-nil, length-append}
 use Rattle.std.proofs.lemmas.Bool.{lt-ltb, le-leb, eq-eqb}
 use Rattle.fields.specs.Fields.{field_bytes}
@@ -17,7 +17,7 @@ abbrev pub paths_so_far : List (List ℕ) → Draft
 paths_so_far ps = record { paths = ps; sources = None; order = None }
 
 -- Path fields come first.
-paths_read : (w : Execution) (rest : List ℕ) (qs ps : List (List ℕ)) → All (λ p. length p ≤ 16) ps → length qs + length ps ≤ 4 →
+paths_read : (w : Execution) (rest : List ℕ) (qs ps : List (List ℕ)) → AllByRecursion (λ p. length p ≤ 16) ps → length qs + length ps ≤ 4 →
     Reads witness_format (paths_so_far (qs ++ ps)) rest w → Reads witness_format (paths_so_far qs) (flat_map (field_bytes path_tag) ps ++ rest) w
 paths_read w rest qs [] h l r = rw append-nil at r
 paths_read w rest qs (p ∷ ps) h l r =

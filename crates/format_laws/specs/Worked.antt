@@ -1,6 +1,6 @@
 -- Questions and witnesses worked through by hand, as statements about the readers.
 use Rattle.std.specs.Prelude.{◌≡◌, ℕ, List, [], ◌∷◌, ◌++◌, map, replicate, Ok, Err, Result}
-use Rattle.std.specs.List.{flat_map, AllByRecursion as All}
+use Rattle.std.specs.List.{flat_map, AllByRecursion}
 use Rattle.fields.specs.declared.refusal.Refusal.{Refusal}
 use Rattle.fields.specs.Refusals.{refusal_number}
 use Rattle.question.specs.Read.{question_of}
@@ -127,4 +127,4 @@ ComesOut found rows = map found rows ≡ map (λ r. r.expected) rows
 
 -- The same, row by row.
 abbrev pub EachComesOut : (Row → ℕ) → List Row → Type 0
-EachComesOut found rows = All (λ r. found r ≡ r.expected) rows
+EachComesOut found rows = AllByRecursion (λ r. found r ≡ r.expected) rows

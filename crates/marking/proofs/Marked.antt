@@ -1,7 +1,7 @@
 -- Steps that finish and accepted witnesses earn the same mark.
 use Rattle.std.proofs.Common.{◌≡◌, ℕ, zero, suc, ◌<◌, Bool, true, false, cond, List, Some, None, Ok, Option, sym, refl, ap, ◌∙◌, arith}
 use Rattle.std.specs.Option.{option_map}
-use Rattle.std.specs.List.{AllByRecursion as All}
+use Rattle.std.specs.List.{AllByRecursion}
 use Rattle.checker.specs.Verdict.{verdict}
 use Rattle.checker_laws.proofs.Judged.{gam_verdicts_are_the_axioms}
 use Rattle.format_laws.proofs.WitnessesMean.{witnesses_are_read_as_they_mean, written_witnesses_are_read_back}
@@ -64,7 +64,7 @@ module _ (q : Litmus) (checked : Checked q) where
       ap (by_steps q) e ∙ by_finished_run sts f
       ∙ sym (ap (by_witness q) (written_witnesses_are_read_back (run_of q sts).execution (finished_agrees q checked sts f).within))
 
-  module _ (b : List ℕ) (bytes : All (λ x. x < 256) b) (w : Execution) (read : witness_of b ≡ Ok w) (mark : earned q (witness b) ≡ accepted) where
+  module _ (b : List ℕ) (bytes : AllByRecursion (λ x. x < 256) b) (w : Execution) (read : witness_of b ≡ Ok w) (mark : earned q (witness b) ≡ accepted) where
     -- The witness that the bytes are, and that they are its bytes.
     meant : Within w × (b ≡ bytes_of w)
     meant = (witnesses_are_read_as_they_mean b bytes w).0 read

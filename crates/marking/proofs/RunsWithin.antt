@@ -1,6 +1,6 @@
 -- The witness of every run is within the bounds of a witness.
 use Rattle.std.proofs.Common.{◌≡◌, ℕ, suc, ◌*◌, ◌≤◌, Bool, true, false, cond, List, [], ◌∷◌, map, length, get_or, refl, arith}
-use Rattle.std.specs.List.{flat_map, AllByRecursion as All}
+use Rattle.std.specs.List.{flat_map, AllByRecursion}
 use Rattle.std.proofs.lemmas.List.{length-append, length-map}
 use Rattle.instructions.specs.Kinds.{loads}
 use Rattle.machine.specs.Results.{closed, entry_sources, core_sources, core_path, source_record}
@@ -32,7 +32,7 @@ sources_of_cores (c ∷ cs) room =
     omega (arith, length-append (core_sources c) (flat_map core_sources cs), sources_of_entries c.entries, sources_of_cores cs (λ p. room (suc p)))
 
 -- Their paths have at most sixteen places.
-paths_of_cores : (cs : List Core) → ((p : ℕ) → length (get_or cs p empty_core).entries ≤ 16) → All (λ p. length p ≤ 16) (map core_path cs)
+paths_of_cores : (cs : List Core) → ((p : ℕ) → length (get_or cs p empty_core).entries ≤ 16) → AllByRecursion (λ p. length p ≤ 16) (map core_path cs)
 paths_of_cores [] room = tt
 paths_of_cores (c ∷ cs) room =
     let here : length c.entries ≤ 16 = room 0 in

@@ -1,6 +1,6 @@
 -- The worked papers, by computation.
 use Rattle.std.proofs.Common.{◌≡◌, List, [], ◌∷◌, map, refl}
-use Rattle.std.specs.List.{AllByRecursion as All}
+use Rattle.std.specs.List.{AllByRecursion}
 use Rattle.search.specs.Search.{nearest, first}
 use Rattle.fields.specs.Rows.{read_within, read_row}
 use Rattle.question.specs.Cells.{cells_from}
@@ -24,7 +24,7 @@ unfolding nearest first read_row read_within cells_from code_from instruction_of
 worked_papers = refl
 
 -- Papers that come out together come out one by one.
-each_row : (rows : List Row) → map found rows ≡ map told rows → All (λ r. found r ≡ told r) rows
+each_row : (rows : List Row) → map found rows ≡ map told rows → AllByRecursion (λ r. found r ≡ told r) rows
 each_row [] h = tt
 each_row (r ∷ rows) h = (cc, each_row rows cc)
 

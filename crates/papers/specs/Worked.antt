@@ -1,6 +1,6 @@
 -- Exam papers worked through by hand, with what comes of them.
 use Rattle.std.specs.Prelude.{◌≡◌, ℕ, List, [], ◌∷◌, ◌++◌, map, replicate, Some, None, Ok, Err, Option, Result}
-use Rattle.std.specs.List.{flat_map, AllByRecursion as All}
+use Rattle.std.specs.List.{flat_map, AllByRecursion}
 use Rattle.marking.specs.Earned.{accepted, fails, unfinished, refused, unreadable}
 use Rattle.papers.specs.Sittings.{Paper, Shown, Judged, Sitting, Came, unread, sat, came}
 
@@ -222,4 +222,4 @@ WorkedPapersComeOut = map found papers ≡ map told papers
 
 -- The same, paper by paper.
 abbrev pub EachWorkedPaperComesOut : Type 0
-EachWorkedPaperComesOut = All (λ r. found r ≡ told r) papers
+EachWorkedPaperComesOut = AllByRecursion (λ r. found r ≡ told r) papers

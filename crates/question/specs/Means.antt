@@ -1,6 +1,6 @@
 -- What a well-formed question is, which litmus test it means, and which fault is found first.
 use Rattle.std.specs.Prelude.{◌≡◌, ℕ, suc, ◌*◌, ◌<◌, ◌≤◌, Bool, true, false, ◌⊎◌, ◌↔◌, List, [], ◌∷◌, ◌++◌, length, take, drop, is_ok, Ok, Err, slice_index, slice_index_or, slice_set}
-use Rattle.std.specs.List.{flat_map, AllByRecursion as All}
+use Rattle.std.specs.List.{flat_map, AllByRecursion}
 use Rattle.fields.specs.declared.refusal.Refusal.{Refusal}
 use Rattle.fields.specs.declared.refusal.Refusal.TheVariants.{CellAddressNotAllowed, KindOrRegisterNotAllowed, NumberNotAllowed}
 use Rattle.fields.specs.Fields.{word, word_bytes, field_bytes}
@@ -38,7 +38,7 @@ CodeAllowed is = (length is ≤ 16) × (code_sound is ≡ true)
 
 -- There are one to four processors, each with allowed instructions.
 abbrev pub ProcessorsAllowed : List (List Instruction) → Type 0
-ProcessorsAllowed code = (1 ≤ length code) × (length code ≤ 4) × All CodeAllowed code
+ProcessorsAllowed code = (1 ≤ length code) × (length code ≤ 4) × AllByRecursion CodeAllowed code
 
 -- The field of a processor.
 abbrev pub processor_bytes : List Instruction → List ℕ
@@ -53,7 +53,7 @@ pub data Means : List ℕ → Litmus → Type 0 where
 
 -- Accepted are exactly the well-formed strings of bytes, as what they mean.
 abbrev pub QuestionsAreReadAsTheyMean : Type 0
-QuestionsAreReadAsTheyMean = (b : List ℕ) → All (λ x. x < 256) b → (l : Litmus) → (question_of b ≡ Ok l) ↔ Means b l
+QuestionsAreReadAsTheyMean = (b : List ℕ) → AllByRecursion (λ x. x < 256) b → (l : Litmus) → (question_of b ≡ Ok l) ↔ Means b l
 
 -- The contents of a cell field are refused exactly if the addresses do not rise below sixteen.
 abbrev pub CellContentsRefusedForAnAddress : Type 0

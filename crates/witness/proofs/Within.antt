@@ -1,6 +1,6 @@
 -- Every witness is within the bounds, and how many bytes it has.
 use Rattle.std.proofs.Common.{◌≡◌, ℕ, ◌*◌, ◌≤◌, List, [], ◌∷◌, ◌++◌, length, refl, arith}
-use Rattle.std.specs.List.{flat_map, AllByRecursion as All}
+use Rattle.std.specs.List.{flat_map, AllByRecursion}
 use Rattle.std.proofs.ByRecursion.{All-map}
 use Rattle.std.proofs.lemmas.List.{length-append, length-map}
 use Rattle.bounded.specs.declared.vector.Bounded.{Bounded}
@@ -18,7 +18,7 @@ use Rattle.witness.specs.Views.{execution_of}
 use Rattle.witness.proofs.Joined.{length_joined}
 
 -- Paths of at most sixteen places.
-all_short : (xs : List (Bounded ℕ 16)) → All (λ p. length (items p) ≤ 16) xs
+all_short : (xs : List (Bounded ℕ 16)) → AllByRecursion (λ p. length (items p) ≤ 16) xs
 all_short [] = tt
 all_short (p ∷ xs) = (items_fit p, all_short xs)
 
@@ -43,7 +43,7 @@ pub length_accesses : (xs : List Access) → length (flat_map access_bytes xs) �
 length_accesses = length_joined access_bytes 2 (λ x. refl)
 
 -- At most nineteen bytes a path.
-length_paths : (ps : List (List ℕ)) → All (λ p. length p ≤ 16) ps → length (flat_map (field_bytes path_tag) ps) ≤ 19 * length ps
+length_paths : (ps : List (List ℕ)) → AllByRecursion (λ p. length p ≤ 16) ps → length (flat_map (field_bytes path_tag) ps) ≤ 19 * length ps
 length_paths [] h = omega arith
 length_paths (p ∷ ps) h =
     let l = length-append (field_bytes path_tag p) (flat_map (field_bytes path_tag) ps) in

@@ -1,6 +1,6 @@
 -- What a witness means: a candidate execution.
 use Rattle.std.specs.Prelude.{ℕ, ◌≤◌, List, length}
-use Rattle.std.specs.List.{AllByRecursion as All}
+use Rattle.std.specs.List.{AllByRecursion}
 use Rattle.witness.specs.declared.record.Access.{Access}
 use Rattle.witness.specs.declared.record.Source.{Source}
 
@@ -14,6 +14,6 @@ pub record Execution : Type 0 where
 pub record Within (w : Execution) : Type 0 where
   pub some_path : 1 ≤ length w.paths
   pub few_paths : length w.paths ≤ 4
-  pub short_paths : All (λ p. length p ≤ 16) w.paths
+  pub short_paths : AllByRecursion (λ p. length p ≤ 16) w.paths
   pub few_sources : length w.sources ≤ 64
   pub few_accesses : length w.order ≤ 64

@@ -39,8 +39,7 @@ A check lists the verdict, 0 if the witness is accepted under the memory model, 
 the number of the first axiom that fails (1 Path, 2 Order, 3 Source, 4 InstOrder,
 5 LoadValue) with what is wrong, and the accesses in memory order.
 A case is a line such as: question 500000 => ok
-or: run QUESTION STEPS => what comes of it, which is compared over both memories,
-or: check gam QUESTION WITNESS => verdict 0, or: rebuild QUESTION WITNESS => steps STEPS
+or: run QUESTION STEPS => what comes of it, which is compared over both memories.
 The status is 1 where a call cannot be carried out or a case differs.
 
 Example: a question for one processor, which stores 5 to cell 1.

@@ -1,15 +1,13 @@
 // The command `vectors`.
 ghost use Rattle.std.specs.Prelude.{◌≡◌, IfOk, string_bytes};
 ghost use Rattle.std.specs.Option.{option_map};
-ghost use Rattle.cuckooshelf.specs.Answers.{RightAnswer, is_known};
+ghost use Rattle.cuckooshelf.specs.Answers.{RightAnswer, is_awaited};
 ghost use Rattle.cuckooshelf.specs.Lines.{Judged};
 
 use super::super::failure::Failure;
 use super::super::files::ReadFiles;
 use super::super::forms::Form;
-use super::super::forms::check::CheckForm;
 use super::super::forms::question::QuestionForm;
-use super::super::forms::rebuild::RebuildForm;
 use super::super::forms::run::RunForm;
 use super::Command;
 use std::alloc::{AllocError, Global};
@@ -20,7 +18,7 @@ use std::fmt;
 enum Outcome<'a> {
     /// Blank, or a remark.
     NoCase,
-    /// A form to which there is no answer.
+    /// A form to which there is no answer yet.
     Skipped,
     Agrees,
     Differs { expected: &'a str, answer: String },
@@ -46,11 +44,11 @@ impl fmt::Display for Tally {
     }
 }
 
-/// Is this a form to which there is an answer.
-fn known(form: &str) -> bool
-    ensures { result ≡ is_known form.now }
+/// Is this a form to which there is no answer yet.
+fn awaited(form: &str) -> bool
+    ensures { result ≡ is_awaited form.now }
 {
-    form == "question" || form == "run" || form == "check" || form == "rebuild"
+    form == "check" || form == "rebuild"
 }
 
 /// The answer to a case, by the name of its form; nothing where it is malformed.
@@ -60,8 +58,6 @@ fn answer(heap: Global, form: &str, operands: &str) -> Result<Option<String>, Al
     match form {
         "question" => QuestionForm::answer(heap, operands),
         "run" => RunForm::answer(heap, operands),
-        "check" => CheckForm::answer(heap, operands),
-        "rebuild" => RebuildForm::answer(heap, operands),
         _ => Ok(None),
     }
 }
@@ -76,7 +72,7 @@ fn compare(heap: Global, line: &str) -> Result<Outcome<'_>, AllocError>
     let Some((form, rest)) = line.split_once(' ') else {
         return Ok(Outcome::Malformed);
     };
-    if !known(form) {
+    if awaited(form) {
         return Ok(Outcome::Skipped);
     }
     let Some((operands, expected)) = rest.split_once(" => ") else {

@@ -1,6 +1,6 @@
 // Cases of the form `question Q => ok | refused N`.
 ghost use Rattle.std.specs.Prelude.{◌≡◌};
-ghost use Rattle.cuckooshelf.specs.Answers.{question-answer};
+ghost use Rattle.cuckooshelf.specs.Answers.{question_answer};
 
 use super::Form;
 use hexadecimal::decode::decode;
@@ -11,7 +11,7 @@ use std::alloc::{AllocError, Global};
 pub enum QuestionForm {}
 
 impl Form for QuestionForm {
-    ghost right = { λ operands answer. answer ≡ question-answer operands };
+    ghost right = { λ operands answer. answer ≡ question_answer operands };
 
     fn answer(heap: Global, operands: &str) -> Result<Option<String>, AllocError> {
         let Some(bytes) = decode(heap, operands.as_bytes())? else {

@@ -1,4 +1,4 @@
--- Only of a question something is stated.
+-- A name that is no form's has no answer, and of a run nothing is stated.
 use Rattle.std.proofs.Common.{rules}
 use Rattle.std.proofs.lemmas.Slice.Eq.{bytes_eq-Decides}
 use Rattle.cuckooshelf.proofs.commands.vectors.answer.Goals as goal

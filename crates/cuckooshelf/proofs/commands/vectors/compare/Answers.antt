@@ -16,12 +16,12 @@ returns-then-is-empty c =
           inr ((starts_char 35 c.args.line.now w.starts-with.result w.starts-with.ensures.cases (lit< tt) (lit< tt)).0 w.if-starts-with.true)
     ]
 
-pub returns-then-not-known : goal.returns-then-not-known
-returns-then-not-known c = (
+pub returns-then-awaited : goal.returns-then-awaited
+returns-then-awaited c = (
   c.in-Some.form.now,
   c.in-Some.rest.now,
   (split_parts 32 c.args.line.now (Some (c.in-Some.form, c.in-Some.rest)) c.in-Some.ensures.cases (lit< tt)).0,
-  sym c.known.ensures ∙ c.if-not-known.true,
+  sym c.awaited.ensures ∙ c.if-awaited.true,
 )
 
 pub returns-in-Some-2 : goal.returns-in-Some-2
