@@ -13,6 +13,11 @@ pub struct Bounded<T, const N: usize> {
 }
 
 impl<T: Copy, const N: usize> Clone for Bounded<T, N> {
+    // A copy is the same vector, and needs no memory.
+    ghost is_clone = { λ v w. w ≡ v };
+
+    ghost is_infallible = { λ _. Unit {0} };
+
     fn clone(&self) -> Result<Self, AllocError> {
         Ok(*self)
     }

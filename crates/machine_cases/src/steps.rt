@@ -6,7 +6,6 @@ use memory::memory::Memory;
 use memory::table::Table;
 use question::question::Question;
 use std::process::Abort;
-use std::test::Fail;
 
 /// Store 5 to cell 1, load it into register 0.
 pub const STORE_LOAD: &[u8] =
@@ -237,11 +236,11 @@ fn number(answer: Result<u8, Refusal>) -> u8 {
     }
 }
 
-/// Runs the steps over a table and compares each answer.
-fn compare(rt: &impl Abort, bytes: &[u8], steps: &[[u8; 4]], wanted: &[u8]) -> Result<(), Fail> {
+/// Runs the steps of a named case over a table and compares each answer.
+fn compare(rt: &impl Abort, name: &str, bytes: &[u8], steps: &[[u8; 4]], wanted: &[u8]) {
     let mut question = Question::new();
-    assert!(rt; question.read(bytes).is_ok());
-    assert_eq!(rt; steps.len(), wanted.len());
+    assert!(rt; question.read(bytes).is_ok(), "{name}");
+    assert_eq!(rt; steps.len(), wanted.len(), "{name}");
     let mut run = OpenRun::start(&question, Table::new());
     for ([rule, processor, position, guess], answer) in steps.iter().zip(wanted.iter()) {
         let got = run.step(Step {
@@ -250,15 +249,13 @@ fn compare(rt: &impl Abort, bytes: &[u8], steps: &[[u8; 4]], wanted: &[u8]) -> R
             position: *position,
             guess: *guess,
         });
-        assert_eq!(rt; number(got), *answer);
+        assert_eq!(rt; number(got), *answer, "{name}");
     }
-    Ok(())
 }
 
 #[test]
-fn steps_answer(rt: HostRuntime) -> Result<(), Fail> {
+fn steps_answer(rt: HostRuntime) {
     for (name, bytes, steps, wanted) in CASES {
-        compare(&rt, bytes, steps, wanted).note(*name)?;
+        compare(&rt, name, bytes, steps, wanted);
     }
-    Ok(())
 }
