@@ -20,15 +20,15 @@ loop-access-preserved g c =
     let settling = ap (λ r. settle (litmus_of r.now) most_steps s) c.loop-access.invariant.0 in
     let question = c.settle.ensures.question ∙ c.loop-access.invariant.0 in
     let on =
-    carrying_goes_on q a (drop (i + 1) order) s t (open_state g.M.Memory.cells c.take-access.new.run) c.take-access.result
+    carrying_goes_on q a (drop (i + 1) order) s t (open_state g.M.Memory.cells c.take_access.new.run) c.take_access.result
     (items c.loop-access.steps) (items c.settle.new.steps) (items c.push.new.self)
     (c.settle.ensures.state ∙ ap (λ r. r.state) settling)
     (c.settle.ensures.steps ∙ ap (λ r. take most_steps (items c.loop-access.steps ++ r.steps)) settling)
-    c.take-access.ensures.value
-    (c.take-access.ensures.state ∙ ap (λ r. after t (step_outcome (litmus_of r.now) t (access_step t a))) question)
+    c.take_access.ensures.value
+    (c.take_access.ensures.state ∙ ap (λ r. after t (step_outcome (litmus_of r.now) t (access_step t a))) question)
     c.push.ensures.items in
     let more = sym (at_drop_more (λ xs. carry_out q xs s) order i (access_at 0 0) c.loop-access-test.true) in (
-      c.take-access.ensures.question ∙ question,
+      c.take_access.ensures.question ∙ question,
       on.0 ∙ ap (λ r. r.state) more ∙ c.loop-access.invariant.1,
       on.1 ∙ ap (λ r. take most_steps (items c.loop-access.steps ++ r.steps)) more ∙ c.loop-access.invariant.2,
     )

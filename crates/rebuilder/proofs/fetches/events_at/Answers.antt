@@ -7,7 +7,7 @@ use Rattle.rebuilder.proofs.fetches.events_at.Goals as goal
 
 pub returns-then-row-rows : goal.returns-then-row-rows
 returns-then-row-rows c =
-    c.as-slice.ensures ∙ sym (get_or-map (λ (x : PathEvents). items x.events) c.args.rows.now c.args.processor c.index-rows-row.result [] c.if-row-rows.true)
+    c.as_slice.ensures ∙ sym (get_or-map (λ (x : PathEvents). items x.events) c.args.rows.now c.args.processor c.index-rows-row.result [] c.if-row-rows.true)
 
 pub returns-else-row-rows : goal.returns-else-row-rows
 returns-else-row-rows c =

@@ -16,18 +16,18 @@ pub loop-processor-preserved : goal.loop-processor-preserved
 loop-processor-preserved g c =
     let q = run_question c.args.run.now in
     let s = open_state g.M.Memory.cells c.loop-processor.run in
-    let t = open_state g.M.Memory.cells c.fetch-path.new.run in
+    let t = open_state g.M.Memory.cells c.fetch_path.new.run in
     let f = row_fetches c.args.rows.now in
     let n = c.args.processors in
     let p = c.loop-processor.processor in
     let all = items c.loop-processor.steps in
-    let is = ap (path_fetches p) c.events-at.ensures in
+    let is = ap (path_fetches p) c.events_at.ensures in
     let on =
-    taking_goes_on q s t all (items c.fetch-path.new.steps) (f p) (flat_map f (drop (p + 1) (range_with_len 0 n)))
-    (c.fetch-path.ensures.state ∙ ap (λ r. run_all (litmus_of r.now) s (path_fetches p c.events-at.result.now)) c.loop-processor.invariant.0 ∙ ap (run_all q s) is)
-    (c.fetch-path.ensures.steps ∙ ap (λ xs. take most_steps (all ++ xs)) is) in
+    taking_goes_on q s t all (items c.fetch_path.new.steps) (f p) (flat_map f (drop (p + 1) (range_with_len 0 n)))
+    (c.fetch_path.ensures.state ∙ ap (λ r. run_all (litmus_of r.now) s (path_fetches p c.events_at.result.now)) c.loop-processor.invariant.0 ∙ ap (run_all q s) is)
+    (c.fetch_path.ensures.steps ∙ ap (λ xs. take most_steps (all ++ xs)) is) in
     let more = sym (left_more f n p c.loop-processor-test.true) in (
-      c.fetch-path.ensures.question ∙ c.loop-processor.invariant.0,
+      c.fetch_path.ensures.question ∙ c.loop-processor.invariant.0,
       on.0 ∙ ap (run_all q s) more ∙ c.loop-processor.invariant.1,
       on.1 ∙ ap (λ xs. take most_steps (all ++ xs)) more ∙ c.loop-processor.invariant.2,
     )

@@ -15,9 +15,9 @@ returns-in-Some g c =
     search_finds (run_question c.args.run.now) (run_question c.loop-rule.run) (open_state g.M.Memory.cells c.args.run.now) (open_state g.M.Memory.cells c.loop-rule.run)
     (map by (drop i rules)) (map by rules) (ap (λ r. litmus_of r.now) c.loop-rule.invariant.0) c.loop-rule.invariant.1 c.loop-rule.invariant.2
     (by (get_or rules i 0) ∷ []) (map by (drop (i + 1) rules)) (at_drop_more (map by) rules i 0 c.loop-rule-test.true)
-    c.take-if-accepted.result c.in-Some.step c.take-if-accepted.ensures.value c.in-Some.is
-    (open_state g.M.Memory.cells c.take-if-accepted.new.run) c.take-if-accepted.ensures.state in
-    record { value = end.0; state = end.1; question = c.take-if-accepted.ensures.question ∙ c.loop-rule.invariant.0 }
+    c.take_if_accepted.result c.in-Some.step c.take_if_accepted.ensures.value c.in-Some.is
+    (open_state g.M.Memory.cells c.take_if_accepted.new.run) c.take_if_accepted.ensures.state in
+    record { value = end.0; state = end.1; question = c.take_if_accepted.ensures.question ∙ c.loop-rule.invariant.0 }
 
 pub loop-rule-preserved : goal.loop-rule-preserved
 loop-rule-preserved g c =
@@ -28,9 +28,9 @@ loop-rule-preserved g c =
     search_goes_on (run_question c.args.run.now) (run_question c.loop-rule.run) (open_state g.M.Memory.cells c.args.run.now) (open_state g.M.Memory.cells c.loop-rule.run)
     (map by (drop i rules)) (map by rules) (ap (λ r. litmus_of r.now) c.loop-rule.invariant.0) c.loop-rule.invariant.1 c.loop-rule.invariant.2
     (by (get_or rules i 0) ∷ []) (map by (drop (i + 1) rules)) (at_drop_more (map by) rules i 0 c.loop-rule-test.true)
-    c.take-if-accepted.result c.take-if-accepted.ensures.value c.in-default.is
-    (open_state g.M.Memory.cells c.take-if-accepted.new.run) c.take-if-accepted.ensures.state in
-    (c.take-if-accepted.ensures.question ∙ c.loop-rule.invariant.0, on.0, on.1)
+    c.take_if_accepted.result c.take_if_accepted.ensures.value c.in_default.is
+    (open_state g.M.Memory.cells c.take_if_accepted.new.run) c.take_if_accepted.ensures.state in
+    (c.take_if_accepted.ensures.question ∙ c.loop-rule.invariant.0, on.0, on.1)
 
 pub returns : goal.returns
 returns g c =

@@ -25,12 +25,12 @@ returns-in-Some g c =
     search_finds q (run_question c.loop-processor.run) s (open_state g.M.Memory.cells c.loop-processor.run)
     (flat_map steps_of (drop i (range_with_len 0 n))) (local_steps n) (ap (λ r. litmus_of r.now) c.loop-processor.invariant.0) c.loop-processor.invariant.1 c.loop-processor.invariant.2
     (steps_of i) (flat_map steps_of (drop (i + 1) (range_with_len 0 n))) (left_more steps_of n i c.loop-processor-test.true)
-    c.lowest-of-processor.result c.in-Some.step c.lowest-of-processor.ensures.value c.in-Some.is
-    (open_state g.M.Memory.cells c.lowest-of-processor.new.run) c.lowest-of-processor.ensures.state in
+    c.lowest_of_processor.result c.in-Some.step c.lowest_of_processor.ensures.value c.in-Some.is
+    (open_state g.M.Memory.cells c.lowest_of_processor.new.run) c.lowest_of_processor.ensures.state in
     record {
       value = end.0 ∙ ap step_of found;
       state = end.1 ∙ ap (state_of s) found;
-      question = c.lowest-of-processor.ensures.question ∙ c.loop-processor.invariant.0;
+      question = c.lowest_of_processor.ensures.question ∙ c.loop-processor.invariant.0;
     }
 
 pub loop-processor-preserved : goal.loop-processor-preserved
@@ -41,9 +41,9 @@ loop-processor-preserved g c =
     search_goes_on (run_question c.args.run.now) (run_question c.loop-processor.run) (open_state g.M.Memory.cells c.args.run.now) (open_state g.M.Memory.cells c.loop-processor.run)
     (flat_map steps_of (drop i (range_with_len 0 n))) (local_steps n) (ap (λ r. litmus_of r.now) c.loop-processor.invariant.0) c.loop-processor.invariant.1 c.loop-processor.invariant.2
     (steps_of i) (flat_map steps_of (drop (i + 1) (range_with_len 0 n))) (left_more steps_of n i c.loop-processor-test.true)
-    c.lowest-of-processor.result c.lowest-of-processor.ensures.value c.in-default.is
-    (open_state g.M.Memory.cells c.lowest-of-processor.new.run) c.lowest-of-processor.ensures.state in
-    (c.lowest-of-processor.ensures.question ∙ c.loop-processor.invariant.0, on.0, on.1)
+    c.lowest_of_processor.result c.lowest_of_processor.ensures.value c.in_default.is
+    (open_state g.M.Memory.cells c.lowest_of_processor.new.run) c.lowest_of_processor.ensures.state in
+    (c.lowest_of_processor.ensures.question ∙ c.loop-processor.invariant.0, on.0, on.1)
 
 pub returns : goal.returns
 returns g c =

@@ -15,9 +15,9 @@ returns-in-Some g c =
     search_finds (run_question c.args.run.now) (run_question c.loop-position.run) (open_state g.M.Memory.cells c.args.run.now) (open_state g.M.Memory.cells c.loop-position.run)
     (flat_map f (drop i (range_with_len 0 16))) (flat_map f (range_with_len 0 16)) (ap (λ r. litmus_of r.now) c.loop-position.invariant.0) c.loop-position.invariant.1 c.loop-position.invariant.2
     (f i) (flat_map f (drop (i + 1) (range_with_len 0 16))) (left_more f 16 i c.loop-position-test.true)
-    c.lowest-of-entry.result c.in-Some.step c.lowest-of-entry.ensures.value c.in-Some.is
-    (open_state g.M.Memory.cells c.lowest-of-entry.new.run) c.lowest-of-entry.ensures.state in
-    record { value = end.0; state = end.1; question = c.lowest-of-entry.ensures.question ∙ c.loop-position.invariant.0 }
+    c.lowest_of_entry.result c.in-Some.step c.lowest_of_entry.ensures.value c.in-Some.is
+    (open_state g.M.Memory.cells c.lowest_of_entry.new.run) c.lowest_of_entry.ensures.state in
+    record { value = end.0; state = end.1; question = c.lowest_of_entry.ensures.question ∙ c.loop-position.invariant.0 }
 
 pub loop-position-preserved : goal.loop-position-preserved
 loop-position-preserved g c =
@@ -27,9 +27,9 @@ loop-position-preserved g c =
     search_goes_on (run_question c.args.run.now) (run_question c.loop-position.run) (open_state g.M.Memory.cells c.args.run.now) (open_state g.M.Memory.cells c.loop-position.run)
     (flat_map f (drop i (range_with_len 0 16))) (flat_map f (range_with_len 0 16)) (ap (λ r. litmus_of r.now) c.loop-position.invariant.0) c.loop-position.invariant.1 c.loop-position.invariant.2
     (f i) (flat_map f (drop (i + 1) (range_with_len 0 16))) (left_more f 16 i c.loop-position-test.true)
-    c.lowest-of-entry.result c.lowest-of-entry.ensures.value c.in-default.is
-    (open_state g.M.Memory.cells c.lowest-of-entry.new.run) c.lowest-of-entry.ensures.state in
-    (c.lowest-of-entry.ensures.question ∙ c.loop-position.invariant.0, on.0, on.1)
+    c.lowest_of_entry.result c.lowest_of_entry.ensures.value c.in_default.is
+    (open_state g.M.Memory.cells c.lowest_of_entry.new.run) c.lowest_of_entry.ensures.state in
+    (c.lowest_of_entry.ensures.question ∙ c.loop-position.invariant.0, on.0, on.1)
 
 pub returns : goal.returns
 returns g c =

@@ -24,8 +24,8 @@ loop-taken-preserved g c =
     (items c.push.new.self) c.push.ensures.items in
     (c.lowest.ensures.question ∙ c.loop-taken.invariant.0, on.0 ∙ c.loop-taken.invariant.1, on.1 ∙ c.loop-taken.invariant.2)
 
-pub returns-in-default : goal.returns-in-default
-returns-in-default g c =
+pub returns-in_default : goal.returns-in_default
+returns-in_default g c =
     let q = run_question c.args.run.now in
     let s = open_state g.M.Memory.cells c.loop-taken.run in
     let k = c.loop-taken.taken in
@@ -33,7 +33,7 @@ returns-in-default g c =
     let same = ap (λ r. lowest (litmus_of r.now) s) c.loop-taken.invariant.0 in
     let end =
     settling_stops q s (open_state g.M.Memory.cells c.lowest.new.run) (items c.loop-taken.steps) (256 - k) (256 - (k + 1)) one
-    c.lowest.result (c.lowest.ensures.value ∙ ap step_of same) c.in-default.is (c.lowest.ensures.state ∙ ap (state_of s) same) (items_fit c.loop-taken.steps) in
+    c.lowest.result (c.lowest.ensures.value ∙ ap step_of same) c.in_default.is (c.lowest.ensures.state ∙ ap (state_of s) same) (items_fit c.loop-taken.steps) in
     record {
       steps = end.1 ∙ c.loop-taken.invariant.2;
       state = end.0 ∙ c.loop-taken.invariant.1;

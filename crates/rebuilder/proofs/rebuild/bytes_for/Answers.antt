@@ -8,7 +8,7 @@ use Rattle.rebuilder.proofs.rebuild.bytes_for.Goals as goal
 
 pub returns : goal.returns
 returns c =
-    all_bytes (steps_for (litmus_of c.args.question.now) (execution_of c.args.witness.now)) (items c.steps-for.result) (items c.bytes-of.result)
+    all_bytes (steps_for (litmus_of c.args.question.now) (execution_of c.args.witness.now)) (items c.steps_for.result) (items c.bytes_of.result)
     (rebuilt_if_accepted c.args.question.now c.args.witness.now c.requires).few
-    c.steps-for.ensures
-    (c.bytes-of.ensures ∙ ap (λ xs. take 1024 (bytes_of_steps xs)) c.as-slice.ensures)
+    c.steps_for.ensures
+    (c.bytes_of.ensures ∙ ap (λ xs. take 1024 (bytes_of_steps xs)) c.as_slice.ensures)
