@@ -15,6 +15,7 @@ use failure::Failure;
 use memories::MemoryKind;
 use models::{Model, Named};
 use std::env;
+use std::process::ExitCode;
 
 mod commands;
 mod failure;
@@ -154,10 +155,12 @@ fn run(rt: &HostRuntime) -> Result<(), Failure> {
     dispatch(rt, &words)
 }
 
-fn main(rt: HostRuntime) -> Result<(), Failure> {
-    let outcome = run(&rt);
-    if let Err(failure) = &outcome {
-        let _ = eprintln!(rt; "cuckooshelf: {failure}");
+fn main(rt: HostRuntime) -> ExitCode {
+    match run(&rt) {
+        Ok(()) => ExitCode::SUCCESS,
+        Err(failure) => {
+            let _ = eprintln!(rt; "cuckooshelf: {failure}");
+            ExitCode::FAILURE
+        }
     }
-    outcome
 }

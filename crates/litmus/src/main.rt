@@ -2,6 +2,7 @@
 #![tactic(auto)]
 
 use failure::Failure;
+use std::process::ExitCode;
 use std::{env, fs};
 use tests::LitmusTest;
 use tries::{Tally, Tries, tried};
@@ -69,10 +70,12 @@ fn run(rt: &HostRuntime) -> Result<(), Failure> {
     Ok(())
 }
 
-fn main(rt: HostRuntime) -> Result<(), Failure> {
-    let outcome = run(&rt);
-    if let Err(failure) = &outcome {
-        let _ = eprintln!(rt; "litmus: {failure}");
+fn main(rt: HostRuntime) -> ExitCode {
+    match run(&rt) {
+        Ok(()) => ExitCode::SUCCESS,
+        Err(failure) => {
+            let _ = eprintln!(rt; "litmus: {failure}");
+            ExitCode::FAILURE
+        }
     }
-    outcome
 }

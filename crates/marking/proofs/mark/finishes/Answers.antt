@@ -22,20 +22,20 @@ loop-rest-preserved g c =
       ap (λ t. ended q t (take (length rest - 4) (drop 4 rest))) state ∙ sym (ended_behind q s rest h) ∙ c.loop-rest.invariant.1,
     )
 
-pub returns-then-is-empty : goal.returns-then-is-empty
-returns-then-is-empty g c =
+pub returns-then-is_empty : goal.returns-then-is_empty
+returns-then-is_empty g c =
     let q = run_question c.start-run.result in
     let s = open_state g.M.Memory.cells c.loop-rest.run in
     let rest = c.loop-rest.rest.now in
     let h : length rest ≡ 0 = search rules in
     let same = ap (λ r. litmus_of r.now) c.loop-rest.invariant.0 in
-    let finished = c.is-finished.ensures ∙ ap (λ (x : Closed). x.finished) c.close.ensures ∙ ap (λ l. (closed l s).finished) same in
+    let finished = c.is_finished.ensures ∙ ap (λ (x : Closed). x.finished) c.close.ensures ∙ ap (λ l. (closed l s).finished) same in
     ap Some finished ∙ sym (ended_here q s rest h) ∙ c.loop-rest.invariant.1
     ∙ ap (λ t. ended q t c.args.bytes.now) c.start-run.ensures.state
     ∙ ap (λ l. ended l (started (litmus_of c.args.question.now)) c.args.bytes.now) c.start-run.ensures.question
 
-pub returns-else-is-empty : goal.returns-else-is-empty
-returns-else-is-empty g c =
+pub returns-else-is_empty : goal.returns-else-is_empty
+returns-else-is_empty g c =
     let q = run_question c.start-run.result in
     let s = open_state g.M.Memory.cells c.loop-rest.run in
     let rest = c.loop-rest.rest.now in

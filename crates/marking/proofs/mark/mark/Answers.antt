@@ -13,7 +13,7 @@ returns-in-Steps g c =
     let q = litmus_of c.args.question.now in
     let checked = questions_are_checked c.args.question.now in
     record {
-      value = c.mark-steps.ensures ∙ sym (ap (λ a. earned q (given_of a)) c.in-Steps.is);
+      value = c.mark_steps.ensures ∙ sym (ap (λ a. earned q (given_of a)) c.in-Steps.is);
       promise = steps_and_witnesses_agree q checked;
       marks = marks_agree q checked;
     }
@@ -23,7 +23,7 @@ returns-in-Witness g c =
     let q = litmus_of c.args.question.now in
     let checked = questions_are_checked c.args.question.now in
     record {
-      value = c.mark-witness.ensures ∙ sym (ap (λ a. earned q (given_of a)) c.in-Witness.is);
+      value = c.mark_witness.ensures ∙ sym (ap (λ a. earned q (given_of a)) c.in-Witness.is);
       promise = steps_and_witnesses_agree q checked;
       marks = marks_agree q checked;
     }

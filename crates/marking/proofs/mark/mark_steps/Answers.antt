@@ -8,5 +8,5 @@ use Rattle.marking.proofs.mark.mark_steps.Goals as goal
 
 pub returns-in-Some : goal.returns-in-Some
 returns-in-Some g c =
-    c.by-finish.ensures
+    c.by_finish.ensures
     ∙ earned_by_finish (litmus_of c.args.question.now) (questions_are_checked c.args.question.now) (steps_of c.args.bytes.now) _ c.in-Some.ensures
