@@ -3,7 +3,7 @@ use Rattle.std.proofs.Common.{◌≡◌, ℕ, ◌<◌, Bool, true, ◌&&◌, ltb
 use Rattle.std.proofs.lemmas.Bool.{false≢true, eqb-true, ltb-true, and_parts, or_cases}
 use Rattle.instructions.specs.Kinds.{stores, access, first_operand, second_operand}
 use Rattle.instructions.specs.declared.instruction.Instruction.{Instruction}
-use Rattle.search.specs.Search.{nearest, passes}
+use Rattle.search.specs.Search.{passes}
 use Rattle.search.proofs.Searches.{nearest_some}
 use Rattle.events.specs.declared.event.Event.{Event}
 use Rattle.events.specs.Events.{at, writes_register, writer}

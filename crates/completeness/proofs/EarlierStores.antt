@@ -5,7 +5,7 @@ use Rattle.instructions.specs.Kinds.{stores}
 use Rattle.question.specs.Litmus.{Litmus}
 use Rattle.rules.specs.Tests.{same_cell}
 use Rattle.instructions.specs.Effects.{cell_number}
-use Rattle.search.specs.Search.{nearest, Sought, nothing, found}
+use Rattle.search.specs.Search.{Sought}
 use Rattle.search.proofs.Searches.{nearest_found}
 use Rattle.witness.specs.Execution.{Execution}
 use Rattle.events.specs.Sources.{events}

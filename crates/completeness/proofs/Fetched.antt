@@ -7,7 +7,7 @@ use Rattle.checker.specs.Axioms.{Path, leads_to}
 use Rattle.checker.specs.Terms.{event}
 use Rattle.checker_laws.proofs.Built.{length_events}
 use Rattle.events.specs.declared.event.Event.{Event}
-use Rattle.events.specs.Events.{at, no_event}
+use Rattle.events.specs.Events.{no_event}
 use Rattle.events.specs.Sources.{path_at, events}
 use Rattle.events.proofs.LoadCounts.{path_short}
 use Rattle.machine.specs.Fires.{buffer, entry}

@@ -4,7 +4,7 @@ use Rattle.std.proofs.lemmas.Bool.{cases_Bool}
 use Rattle.instructions.specs.Kinds.{stores, access, computes, branches, fences, of_type, fence_from, first_operand, second_operand, writes}
 use Rattle.instructions.specs.declared.instruction.AccessType.{AccessType}
 use Rattle.question.specs.Litmus.{Litmus}
-use Rattle.search.specs.Search.{Sought, nothing, found}
+use Rattle.search.specs.Search.{Sought}
 use Rattle.search.proofs.Searches.{nearest_found}
 use Rattle.witness.specs.Execution.{Execution}
 use Rattle.events.specs.Sources.{path_at, events}

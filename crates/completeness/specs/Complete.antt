@@ -1,5 +1,5 @@
 -- Every witness of which the axioms of GAM hold is rebuilt, and its steps run to it.
-use Rattle.std.specs.Prelude.{◌≡◌, ℕ, ◌≤◌, true, List, length, replicate, Ok}
+use Rattle.std.specs.Prelude.{◌≡◌, ◌≤◌, true, List, length, replicate, Ok}
 use Rattle.question.specs.Litmus.{Litmus}
 use Rattle.witness.specs.Execution.{Execution, Within}
 use Rattle.ordering.specs.Rules.{gam}

@@ -1,5 +1,5 @@
 -- The steps that rebuild a witness.
-use Rattle.std.specs.Prelude.{ℕ, zero, suc, ◌+◌, Bool, cond, not, ◌&&◌, List, [], ◌∷◌, ◌++◌, map, length, Some, None, Option, ◌==◌}
+use Rattle.std.specs.Prelude.{ℕ, zero, suc, ◌+◌, cond, not, ◌&&◌, List, [], ◌∷◌, ◌++◌, map, length, Some, None, Option, ◌==◌}
 use Rattle.std.specs.List.{range_with_len, flat_map}
 use Rattle.instructions.specs.Kinds.{loads, branches}
 use Rattle.instructions.specs.declared.instruction.Instruction.{Instruction}

@@ -8,7 +8,7 @@ use Rattle.rules.specs.declared.rule.Rule.{Rule}
 use Rattle.rules.specs.declared.rule.Rule.TheVariants as rule
 use Rattle.machine.specs.declared.step.Step.{Step}
 use Rattle.machine.specs.State.{State}
-use Rattle.machine.specs.Fires.{buffer, entry, instruction, OpenTo, NearestOpen}
+use Rattle.machine.specs.Fires.{entry, instruction, OpenTo, NearestOpen}
 use Rattle.machine_laws.specs.Causes.{By, Cause, NotReady, SomeOlder}
 
 module _ (s : State) (p i : ℕ) where

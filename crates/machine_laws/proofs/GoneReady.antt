@@ -3,7 +3,7 @@ use Rattle.std.proofs.Common.{◌≡◌, ℕ, ◌<◌, Bool, true, false, cond, 
 use Rattle.search.specs.Search.{nearest, passes, Nearest}
 use Rattle.search.proofs.Searches.{nearest_some, nearest_none, passes_at}
 use Rattle.rules.specs.declared.entry.Entry.{Entry}
-use Rattle.rules.specs.Entries.{at, blank}
+use Rattle.rules.specs.Entries.{blank}
 use Rattle.rules.specs.Ready.{writes_register, writer, written_by, ready}
 use Rattle.machine.specs.State.{State}
 use Rattle.machine.specs.Fires.{buffer, entry, Ready, absent, unwritten, from_writer}

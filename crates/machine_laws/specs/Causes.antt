@@ -1,5 +1,5 @@
 -- Why a step is refused: the causes by their numbers, and that the refusal is the first that holds.
-use Rattle.std.specs.Prelude.{◌≡◌, ℕ, ◌<◌, ◌≤◌, Bool, true, false, ◌≢◌, ◌⊎◌, ◌↔◌, length, is_some, Some, None}
+use Rattle.std.specs.Prelude.{◌≡◌, ℕ, ◌<◌, ◌≤◌, true, false, ◌≢◌, ◌⊎◌, ◌↔◌, length, is_some, Some, None}
 use Rattle.fields.specs.Refusals.{refusal_number}
 use Rattle.fields.specs.declared.refusal.Refusal.{Refusal}
 use Rattle.instructions.specs.declared.instruction.AccessType.{AccessType}

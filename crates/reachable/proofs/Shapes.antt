@@ -1,7 +1,7 @@
 -- How the states that the rules lead to look: one buffer with an entry changed, cut behind it or not, or with one more.
 use Rattle.std.proofs.Common.{◌≡◌, ℕ, ◌+◌, ◌<◌, ◌≤◌, ◌≢◌, [], ◌∷◌, ◌++◌, length, get_or, take, set, sym, refl, ap, ◌∙◌, arith}
 use Rattle.std.proofs.lemmas.List.{length-set, length_push, length-take-le, get_or-set_same, get_or-set_other, get_or-take, get_or_append_left, get_or_push, take_all}
-use Rattle.machine.specs.Fires.{buffer, entry}
+use Rattle.machine.specs.Fires.{buffer}
 use Rattle.machine.specs.State.{Core, State, core_at, empty_core}
 use Rattle.rules.specs.Entries.{at, blank}
 use Rattle.rules.specs.declared.entry.Entry.{Entry}

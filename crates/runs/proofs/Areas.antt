@@ -1,9 +1,7 @@
 -- What is written to an area that has room.
-use Rattle.std.proofs.Common.{◌≡◌, ℕ, ◌-◌, ◌≤◌, Bool, true, false, cond, ltb, List, ◌++◌, length, take, drop, Ok, Err, Result, sym, refl, ap, ◌∙◌, arith}
+use Rattle.std.proofs.Common.{◌≡◌, ℕ, ◌-◌, ◌≤◌, Bool, true, false, ltb, List, ◌++◌, length, take, drop, Ok, refl, ◌∙◌, arith}
 use Rattle.std.proofs.lemmas.List.{take-append-le, take_all}
 use Rattle.std.proofs.lemmas.Bool.{ltb-true}
-use Rattle.fields.specs.Areas.{area_answer, area_after}
-use Rattle.fields.specs.declared.refusal.Refusal.{Refusal}
 use Rattle.machine.specs.Results.{Closed, witness_answer, witness_area}
 use Rattle.witness.specs.Bytes.{bytes_of}
 

@@ -1,5 +1,5 @@
 -- What a whole run gives: the answer to each step, and the results if it is finished.
-use Rattle.std.specs.Prelude.{◌≡◌, ℕ, ◌/◌, ◌%◌, cond, List, [], ◌∷◌, map, Some, None, Ok, Err, vec_items, Option, Result}
+use Rattle.std.specs.Prelude.{◌≡◌, ℕ, ◌/◌, ◌%◌, cond, List, [], ◌∷◌, Some, None, Ok, Err, vec_items, Option, Result}
 use Rattle.std.specs.List.{range_with_len, flat_map}
 use Rattle.std.specs.Option.{option_map}
 use Rattle.fields.specs.declared.refusal.Refusal.{Refusal}

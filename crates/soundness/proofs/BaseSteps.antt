@@ -1,6 +1,6 @@
 -- Every rule keeps the invariant but for same-address load-load order: sources and cells, the memory order, the paths.
 -- Rule 5 is asked for a search over stores only, rule 8 that it leaves no done load that would have to look at a newly addressed store.
-use Rattle.std.proofs.Common.{◌≡◌, ℕ, suc, ◌<◌, ◌≤◌, Bool, true, ◌≢◌, List, [], ◌∷◌, ◌++◌, Option, refl, arith}
+use Rattle.std.proofs.Common.{◌≡◌, ℕ, suc, ◌<◌, ◌≤◌, true, ◌≢◌, [], ◌∷◌, ◌++◌, Option, refl, arith}
 use Rattle.instructions.specs.Kinds.{stores}
 use Rattle.instructions.specs.declared.instruction.Instruction.{Instruction}
 use Rattle.memory.specs.declared.cell.Mark.{Mark}

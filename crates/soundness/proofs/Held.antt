@@ -1,9 +1,9 @@
 -- Every step of a run keeps the invariant, same-address load-load order among it.
-use Rattle.std.proofs.Common.{◌≡◌, ℕ, suc, ◌<◌, ◌≤◌, arith}
+use Rattle.std.proofs.Common.{ℕ, ◌<◌, arith}
 use Rattle.instructions.specs.Kinds.{access}
 use Rattle.instructions.specs.declared.instruction.Instruction.{Instruction}
 use Rattle.soundness.proofs.Worlds.{Row, World, begin}
-use Rattle.soundness.proofs.Moves.{Put, supplied, Step}
+use Rattle.soundness.proofs.Moves.{Put, Step}
 use Rattle.soundness.proofs.Ends.{Path, Run}
 use Rattle.soundness.proofs.KindFacts.{store_access}
 use Rattle.soundness.proofs.Invariant.{Ok, Ordered}

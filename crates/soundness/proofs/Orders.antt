@@ -1,5 +1,5 @@
 -- A list of accesses that rises in time: what stands in it and what precedes what.
-use Rattle.std.proofs.Common.{◌≡◌, ℕ, zero, suc, ◌+◌, ◌<◌, Bool, true, false, cond, ◌⊎◌, List, [], ◌∷◌, ◌++◌, sym, refl, ap, ◌∙◌, inl, inr, arith}
+use Rattle.std.proofs.Common.{◌≡◌, ℕ, zero, suc, ◌<◌, Bool, true, false, cond, ◌⊎◌, List, [], ◌∷◌, ◌++◌, sym, refl, ap, ◌∙◌, inl, inr, arith}
 use Rattle.witness.specs.declared.record.Access.{Access}
 use Rattle.machine.specs.Steps.{only}
 use Rattle.checker.specs.Terms.{Stands, Precedes}

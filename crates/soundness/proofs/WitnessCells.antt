@@ -21,7 +21,6 @@ use Rattle.soundness.proofs.KindFacts.{store_access}
 use Rattle.soundness.proofs.SeenRuns.{start_of, Shown}
 use Rattle.soundness.proofs.WitnessOrder.{one_number}
 use Rattle.soundness.proofs.WitnessShown.{execution, rows, rows_done, ended, path_row, row_path, kind_row, row_kind, cell_row, datum_row}
-use Rattle.soundness.proofs.Worlds.{cell}
 
 module _ (q : Litmus) (s : State) (shown : Shown q s) (finished : (closed q s).finished ≡ true) (b : ℕ) where
   abbrev w : Execution

@@ -1,5 +1,5 @@
 -- The steps so far grow step by step, and are all at the end.
-use Rattle.std.proofs.Common.{◌≡◌, ◌<◌, ◌≤◌, length, vec_items, arith, rules}
+use Rattle.std.proofs.Common.{◌≡◌, ◌<◌, ◌≤◌, length, vec_items, rules}
 use Rattle.runs.proofs.Steps.{step_joins, steps_end, steps_cut}
 use Rattle.runs.proofs.step_bytes.steps_of.Goals as goal
 

@@ -1,9 +1,6 @@
-use Rattle.std.proofs.Common.{◌≡◌, ℕ, ◌≤◌, List, [], ◌++◌, length, take, drop, replicate, Ok, Err, vec_items, Result, sym, refl, ap, ◌∙◌, arith, rules}
-use Rattle.fields.specs.declared.refusal.Refusal.{Refusal}
-use Rattle.machine.specs.Results.{witness_answer, witness_area}
+use Rattle.std.proofs.Common.{◌≡◌, ℕ, ◌≤◌, length, replicate, ◌∙◌, arith}
 use Rattle.machine.specs.Views.{closed_state}
 use Rattle.witness.specs.Bytes.{bytes_of}
-use Rattle.witness.specs.Views.{execution_of}
 use Rattle.witness.proofs.Within.{within, witnesses_have_at_most_466_bytes}
 use Rattle.std.proofs.lemmas.Result.{IfOk-weaker}
 use Rattle.runs.proofs.Areas.{answer_with_room, area_with_room, front_of_area}
