@@ -1,5 +1,5 @@
 -- Whatever a memory held, sixteen writes leave the start cells.
-use Rattle.std.proofs.Common.{◌≡◌, ℕ, zero, suc, ◌≤◌, List, map, length, sym, refl, ap, ◌∙◌, subst, add-one, arith}
+use Rattle.std.proofs.Common.{◌≡◌, ℕ, zero, suc, ◌≤◌, List, map, length, subst, add-one, arith}
 use Rattle.std.proofs.lemmas.List.{length-set}
 use Rattle.memory.specs.declared.cell.Cell.{Cell}
 use Rattle.machine.specs.State.{started, start_cell}

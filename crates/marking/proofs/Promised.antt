@@ -5,7 +5,7 @@ use Rattle.fields.specs.Areas.{area_answer, area_after}
 use Rattle.fields.specs.declared.refusal.Refusal.TheVariants.{WitnessNotAccepted}
 use Rattle.checker.specs.Axioms.{Axioms}
 use Rattle.machine.specs.Results.{Closed, closed}
-use Rattle.machine.specs.State.{State, started}
+use Rattle.machine.specs.State.{started}
 use Rattle.machine.specs.Steps.{run_all}
 use Rattle.machine.specs.declared.step.Step.{Step}
 use Rattle.memory.specs.declared.cell.Cell.{Cell}
@@ -21,7 +21,7 @@ use Rattle.completeness.specs.Complete.{Rebuilt}
 use Rattle.completeness.specs.StepsFor.{steps_for, bytes_of_steps}
 use Rattle.completeness.proofs.Completed.{accepted_witnesses_are_rebuilt}
 use Rattle.marking.specs.Earned.{run_of}
-use Rattle.marking.specs.Promise.{started_over, run_over, Writes, WritesSteps, RunsToIt, AgreesWithItsWitness, AgreesWithItsSteps, StepsAndWitnessesAgree}
+use Rattle.marking.specs.Promise.{run_over, Writes, WritesSteps, RunsToIt, AgreesWithItsWitness, AgreesWithItsSteps, StepsAndWitnessesAgree}
 use Rattle.marking.proofs.MemoryStarts.{starts_alike}
 use Rattle.marking.proofs.RunsWithin.{runs_within}
 use Rattle.marking.proofs.StepsBack.{four_bytes_a_step}

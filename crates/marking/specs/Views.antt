@@ -1,5 +1,4 @@
 -- What the types of the code stand for.
-use Rattle.std.specs.Prelude.{ℕ}
 use Rattle.fields.specs.Refusals.{refusal_number}
 use Rattle.checker.specs.Views.{verdict_number}
 use Rattle.marking.specs.declared.answer.Answer.{Answer}

@@ -11,7 +11,7 @@ use Rattle.witness.specs.Read.{witness_of}
 use Rattle.ordering.specs.Tests.{gam_keeps, sc_keeps}
 use Rattle.checker.specs.Verdict.{verdict}
 use Rattle.machine.specs.Results.{Closed, closed}
-use Rattle.machine.specs.State.{Core, State, started}
+use Rattle.machine.specs.State.{Core, started}
 use Rattle.machine.specs.Steps.{run_all}
 use Rattle.machine.specs.declared.step.Step.{Step}
 use Rattle.runs.specs.Records.{answers}

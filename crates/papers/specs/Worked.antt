@@ -2,7 +2,7 @@
 use Rattle.std.specs.Prelude.{◌≡◌, ℕ, List, [], ◌∷◌, ◌++◌, map, replicate, Some, None, Ok, Err, Option, Result}
 use Rattle.std.specs.List.{flat_map, AllByRecursion}
 use Rattle.marking.specs.Earned.{accepted, fails, unfinished, refused, unreadable}
-use Rattle.papers.specs.Sittings.{Paper, Shown, Judged, Sitting, Came, unread, sat, came}
+use Rattle.papers.specs.Sittings.{Paper, Shown, Judged, Came, unread, sat, came}
 
 -- A paper and what comes of it.
 pub record Row : Type 0 where

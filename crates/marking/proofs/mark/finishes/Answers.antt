@@ -1,5 +1,5 @@
 -- Each step is taken as the bytes state it, and the state at the end decides.
-use Rattle.std.proofs.Common.{◌≡◌, ◌-◌, ◌<◌, ◌≤◌, length, get_or, take, drop, Some, sym, ap, ◌∙◌, arith, rules}
+use Rattle.std.proofs.Common.{◌≡◌, ◌-◌, ◌<◌, ◌≤◌, length, get_or, take, drop, Some, sym, ap, ◌∙◌, rules}
 use Rattle.machine.specs.Fires.{step}
 use Rattle.machine.specs.Results.{Closed, closed}
 use Rattle.machine.specs.State.{started}

@@ -1,8 +1,7 @@
 -- What is said of a line is right.
-use Rattle.std.proofs.Common.{◌≡◌, ℕ, List, ◌∷◌, ◌++◌, length, Some, string_bytes, codes, Decides, sym, subst, ap, ◌∙◌, inl, inr, arith, lit<, eqb-true}
+use Rattle.std.proofs.Common.{◌≡◌, length, Some, string_bytes, codes, Decides, sym, subst, ◌∙◌, inl, inr, lit<, eqb-true}
 use Rattle.std.proofs.lemmas.Slice.Eq.{bytes_eq-Decides}
 use Rattle.std.proofs.lemmas.Str.Pattern.{starts_char, split_parts, split_text_parts}
-use Rattle.std.specs.Option.{option_map}
 use Rattle.cuckooshelf.proofs.Lines.{none_is_empty, case_from_parts, found_answer, answer_agrees, answer_differs}
 use Rattle.cuckooshelf.specs.Answers.{RightAnswer}
 use Rattle.cuckooshelf.proofs.commands.vectors.compare.Goals as goal
