@@ -54,7 +54,7 @@ fn accepted_witnesses_are_rebuilt(rt: HostRuntime) {
     assert!(rt; witness.read(FORWARDED).is_ok());
     let mut area = [9; 30];
     assert_eq!(rt; rebuild(&question, &witness, &mut area).ok(), Some(28));
-    assert!(rt; area[0..28] == *SEVEN);
+    assert_eq!(rt; &area[0..28], SEVEN);
     assert!(rt; area[28] == 9 && area[29] == 9);
     let mut short = [9; 27];
     assert_eq!(rt; refused(rebuild(&question, &witness, &mut short)), 16);
