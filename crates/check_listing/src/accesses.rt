@@ -1,5 +1,5 @@
 // The accesses of a witness in memory order, as text.
-use super::search::{event_of, source_of};
+use super::reason_search::{event_of, source_of};
 use events::event::Event;
 use events::path::PathEvents;
 use std::fmt;

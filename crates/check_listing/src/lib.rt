@@ -4,4 +4,4 @@
 pub mod accesses;
 pub mod listing;
 mod reason;
-mod search;
+mod reason_search;

@@ -1,6 +1,6 @@
 // The listing of a check.
 use super::accesses::AccessLines;
-use super::search::reason;
+use super::reason_search::reason;
 use checker::check::check;
 use events::evaluate::evaluate;
 use ordering::rule::OrderingRule;

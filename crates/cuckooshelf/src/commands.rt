@@ -3,13 +3,13 @@ use super::failure::Failure;
 
 pub mod check;
 pub mod help;
+pub mod list_question;
+pub mod list_witness;
 pub mod mark;
-pub mod question;
 pub mod rebuild;
 pub mod run;
 pub mod sample;
 pub mod vectors;
-pub mod witness;
 
 /// What the command line can ask for.
 pub trait Command {

@@ -6,7 +6,7 @@ use std::alloc::{AllocError, Global};
 
 pub mod check;
 pub mod pair;
-pub mod question;
+pub mod question_form;
 pub mod rebuild;
 pub mod run;
 

@@ -4,13 +4,13 @@
 use commands::Command;
 use commands::check::Check;
 use commands::help::Help;
+use commands::list_question::ListQuestion;
+use commands::list_witness::ListWitness;
 use commands::mark::{AnswerKind, MarkAnswer};
-use commands::question::ListQuestion;
 use commands::rebuild::Rebuild;
 use commands::run::Run;
 use commands::sample::Sample;
 use commands::vectors::CompareVectors;
-use commands::witness::ListWitness;
 use failure::Failure;
 use memories::MemoryKind;
 use models::{Model, Named};

@@ -1,4 +1,4 @@
 // What came of a run, as text.
 pub mod answer;
-pub mod listing;
+pub mod run_listing;
 pub mod steps;

@@ -2,7 +2,7 @@
 #![tactic(auto)]
 
 #[cfg(test)]
-mod instructions;
+mod instruction_cases;
 #[cfg(test)]
 mod listings;
 #[cfg(test)]

@@ -1,7 +1,7 @@
 // The exact text of listings.
-use listing::question::QuestionBytes;
+use listing::question_listing::QuestionBytes;
 use listing::sample;
-use listing::witness::WitnessBytes;
+use listing::witness_listing::WitnessBytes;
 use std::test::Fail;
 
 /// Bytes, and the listing of the question that they are, or of their refusal.

@@ -1,5 +1,5 @@
 // Bytes that are questions, and bytes that are refused.
-use listing::question::QuestionListing;
+use listing::question_listing::QuestionListing;
 use listing::sample;
 use question::question::Question;
 use std::alloc::{AllocError, Global};

@@ -1,7 +1,7 @@
 // Bytes that are witnesses, bytes that are refused, and witnesses that are written.
 use fields::refusal::Refusal;
 use listing::sample;
-use listing::witness::WitnessListing;
+use listing::witness_listing::WitnessListing;
 use std::alloc::{AllocError, Global};
 use std::test::Fail;
 use witness::witness::Witness;

@@ -2,7 +2,7 @@
 #![tactic(auto)]
 
 pub mod instruction;
-pub mod question;
+pub mod question_listing;
 pub mod refusal;
 pub mod sample;
-pub mod witness;
+pub mod witness_listing;

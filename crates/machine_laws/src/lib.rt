@@ -2,5 +2,5 @@
 #![tactic(auto)]
 
 pub mod refusals;
-pub mod rules;
+pub mod steps;
 pub mod worked;

@@ -2,7 +2,7 @@
 use super::super::failure::Failure;
 use super::super::files::ReadFiles;
 use super::super::memories::{MemoryKind, RunsSteps};
-use super::super::run_texts::listing::RunListing;
+use super::super::run_texts::run_listing::RunListing;
 use super::Command;
 use listing::refusal::RefusalText;
 use question::question::Question;

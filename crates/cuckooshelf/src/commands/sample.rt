@@ -1,9 +1,9 @@
 // The program without a command: a sample.
 use super::super::failure::Failure;
 use super::Command;
-use listing::question::QuestionBytes;
+use listing::question_listing::QuestionBytes;
 use listing::sample;
-use listing::witness::WitnessBytes;
+use listing::witness_listing::WitnessBytes;
 
 /// Lists a question and a witness for it that the program has built in.
 #[derive(Clone, Copy)]

@@ -7,7 +7,7 @@ ghost use Rattle.cuckooshelf.specs.Lines.{Judged};
 use super::super::failure::Failure;
 use super::super::files::ReadFiles;
 use super::super::forms::Form;
-use super::super::forms::question::QuestionForm;
+use super::super::forms::question_form::QuestionForm;
 use super::super::forms::run::RunForm;
 use super::Command;
 use std::alloc::{AllocError, Global};

@@ -1,17 +1,17 @@
-// The command `witness`.
+// The command `question`.
 use super::super::failure::Failure;
 use super::super::files::ReadFiles;
 use super::Command;
-use listing::witness::WitnessBytes;
+use listing::question_listing::QuestionBytes;
 
-/// Lists the witness in a file.
+/// Lists the question in a file.
 #[derive(Clone, Copy)]
-pub struct ListWitness<'a>(pub &'a str);
+pub struct ListQuestion<'a>(pub &'a str);
 
-impl Command for ListWitness<'_> {
+impl Command for ListQuestion<'_> {
     fn run(&self, rt: &HostRuntime) -> Result<(), Failure> {
         let bytes = rt.read_bytes(self.0)?;
-        rt.println(WitnessBytes(&bytes))?;
+        rt.println(QuestionBytes(&bytes))?;
         Ok(())
     }
 }

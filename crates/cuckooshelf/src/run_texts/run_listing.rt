@@ -3,7 +3,7 @@ use super::steps::StepText;
 use fields::refusal::Refusal;
 use hexadecimal::encode::HexText;
 use listing::refusal::RefusalText;
-use listing::witness::WitnessBytes;
+use listing::witness_listing::WitnessBytes;
 use machine::step::Step;
 use memory::cell::{Cell, Mark};
 use runs::record::{Record, Results};

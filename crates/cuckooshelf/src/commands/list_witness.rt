@@ -1,17 +1,17 @@
-// The command `question`.
+// The command `witness`.
 use super::super::failure::Failure;
 use super::super::files::ReadFiles;
 use super::Command;
-use listing::question::QuestionBytes;
+use listing::witness_listing::WitnessBytes;
 
-/// Lists the question in a file.
+/// Lists the witness in a file.
 #[derive(Clone, Copy)]
-pub struct ListQuestion<'a>(pub &'a str);
+pub struct ListWitness<'a>(pub &'a str);
 
-impl Command for ListQuestion<'_> {
+impl Command for ListWitness<'_> {
     fn run(&self, rt: &HostRuntime) -> Result<(), Failure> {
         let bytes = rt.read_bytes(self.0)?;
-        rt.println(QuestionBytes(&bytes))?;
+        rt.println(WitnessBytes(&bytes))?;
         Ok(())
     }
 }
