@@ -1,6 +1,5 @@
 -- What is said of a line is right.
-use Rattle.std.proofs.Common.{◌≡◌, length, Some, string_bytes, codes, Decides, sym, subst, ◌∙◌, inl, inr, lit<, eqb-true}
-use Rattle.std.proofs.lemmas.Slice.Eq.{bytes_eq-Decides}
+use Rattle.std.proofs.Common.{◌≡◌, length, Some, string_bytes, codes, sym, ◌∙◌, inl, inr, lit<, eqb-true}
 use Rattle.std.proofs.lemmas.Str.Pattern.{starts_char, split_parts, split_text_parts}
 use Rattle.cuckooshelf.proofs.Lines.{none_is_empty, case_from_parts, found_answer, answer_agrees, answer_differs}
 use Rattle.cuckooshelf.specs.Answers.{RightAnswer}
@@ -32,14 +31,12 @@ returns-in-Some-2 c =
     let answer = string_bytes c.in-Some-2.answer in
     let front = (split_parts 32 c.args.line.now (Some (c.in-Some.form, c.in-Some.rest)) c.in-Some.ensures.cases (lit< tt)).0 in
     let back = split_text_parts (codes " => ") c.in-Some.rest.now (Some (c.in-Some-split_once.operands, c.in-Some-split_once.expected)) c.in-Some-split_once.ensures.cases in
-    let told : Decides c.eq.result (c.as_str.result.now ≡ expected) =
-    subst (λ b. Decides b (c.as_str.result.now ≡ expected)) (sym c.eq.ensures) (bytes_eq-Decides c.as_str.result.now expected) in
     let found = found_answer string_bytes c.in_ok-answer.field-0 c.in-Some-2.answer (RightAnswer form operands) c.in_ok-answer.ensures c.in-Some-2.is in (
       form,
       operands,
       expected,
       case_from_parts front back,
-      answer_agrees (RightAnswer form operands) answer c.as_str.result.now expected c.eq.result found c.as_str.ensures.value told c.if-eq.true,
+      answer_agrees (RightAnswer form operands) answer c.as_str.result.now expected c.eq.result found c.as_str.ensures.value c.eq.ensures c.if-eq.true,
     )
 
 pub returns-in-Some-2-2 : goal.returns-in-Some-2-2
@@ -50,12 +47,10 @@ returns-in-Some-2-2 c =
     let answer = string_bytes c.in-Some-2.answer in
     let front = (split_parts 32 c.args.line.now (Some (c.in-Some.form, c.in-Some.rest)) c.in-Some.ensures.cases (lit< tt)).0 in
     let back = split_text_parts (codes " => ") c.in-Some.rest.now (Some (c.in-Some-split_once.operands, c.in-Some-split_once.expected)) c.in-Some-split_once.ensures.cases in
-    let told : Decides c.eq.result (c.as_str.result.now ≡ expected) =
-    subst (λ b. Decides b (c.as_str.result.now ≡ expected)) (sym c.eq.ensures) (bytes_eq-Decides c.as_str.result.now expected) in
     let found = found_answer string_bytes c.in_ok-answer.field-0 c.in-Some-2.answer (RightAnswer form operands) c.in_ok-answer.ensures c.in-Some-2.is in (
       form,
       operands,
       case_from_parts front back,
       found,
-      answer_differs answer c.as_str.result.now expected c.eq.result c.as_str.ensures.value told c.if-eq.false,
+      answer_differs answer c.as_str.result.now expected c.eq.result c.as_str.ensures.value c.eq.ensures c.if-eq.false,
     )
