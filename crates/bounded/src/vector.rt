@@ -5,6 +5,7 @@ use std::alloc::AllocError;
 
 pub mod methods;
 
+#[derive(Copy)]
 pub struct Bounded<T, const N: usize> {
     slots: [T; N],
     len: usize,
@@ -22,5 +23,3 @@ impl<T: Copy, const N: usize> Clone for Bounded<T, N> {
         Ok(*self)
     }
 }
-
-impl<T: Copy, const N: usize> Copy for Bounded<T, N> {}

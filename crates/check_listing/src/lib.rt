@@ -2,6 +2,7 @@
 #![tactic(auto)]
 
 pub mod accesses;
-pub mod listing;
+mod paths;
 mod reason;
 mod reason_search;
+pub mod verdict_listing;

@@ -1,48 +1,71 @@
--- The steps of loops that test every number below a bound, or look for one.
-use Rattle.std.proofs.Common.{◌≡◌, ℕ, zero, suc, ◌+◌, ◌<◌, ◌≤◌, Bool, true, false, cond, ◌||◌, List, length, get_or, is_some, Some, Option, sym, refl, ap, ◌∙◌, inl, inr, add-one, arith}
-use Rattle.std.proofs.lemmas.Bool.{and_from, and_left, and_right, or_from, or_left, or_right, cases_eq}
+-- What `all` and `rfind` over the numbers below a bound return, and what a search finds.
+use Rattle.std.proofs.Common.{◌≡◌, ℕ, zero, suc, ◌+◌, ◌≤◌, Bool, true, false, cond, ◌&&◌, ◌||◌, List, [], ◌∷◌, length, get_or, is_some, Some, None, Option, refl, sym, ap, ◌∙◌, arith}
+use Rattle.std.proofs.Math.Bool.{and_comm}
+use Rattle.std.proofs.iter.Yields.{nat_range_steps}
+use Rattle.std.proofs.iter.runs.Sources.{nat_range_steps_back}
+use Rattle.std.proofs.lemmas.Iterator.{YieldsList-from_range}
+use Rattle.std.proofs.lemmas.Iterator.Search.{all_from_yields_List, find_from_yields_List}
+use Rattle.std.proofs.lemmas.List.Folds.{list_all-append}
+use Rattle.std.specs.Fn.{Called, CalledAt}
+use Rattle.std.specs.Iterator.{AlwaysYields, ChecksAll, FindsItem}
+use Rattle.std.specs.List.{range_with_len, list_all, find}
+use Rattle.std.specs.Option.{option_map}
+use Rattle.std.specs.declared.ops.Range.{Range}
+use denote.Param.Members.{Mut}
+use denote.Ref.{Bor}
 use Rattle.search.specs.Search.{nearest, passes}
 use Rattle.search.proofs.Searches.{passes_at, nearest_same}
 use Rattle.ordering.specs.Tests.{some_below}
+use Rattle.ordering.proofs.Ranges.{range_more}
 use Rattle.checker.specs.Tests.{all_below}
 
--- Below 0 every number passes.
-pub all_none : (t : ℕ → Bool) → all_below t 0 ≡ true
+-- Every number below the bound passes: each of the list of those numbers does.
+all_is_all_below : (t : ℕ → Bool) (n : ℕ) → list_all t (range_with_len 0 n) ≡ all_below t n
 unfolding all_below
-all_none t = refl
+all_is_all_below t zero = refl
+all_is_all_below t (suc n) =
+    let last : 0 + n ≡ n = omega arith in
+    ap (list_all t) (range_more 0 n)
+    ∙ list_all-append t (range_with_len 0 n) ((0 + n) ∷ [])
+    ∙ and_comm (list_all t (range_with_len 0 n)) (t (0 + n) && true)
+    ∙ (λ i. and_comm (t (last i)) true i && all_is_all_below t n i)
 
--- One more passes.
-pub all_more : (t : ℕ → Bool) (n : ℕ) → t n ≡ true → all_below t n ≡ true → all_below t (n + 1) ≡ true
-unfolding all_below
-all_more t n h l = rw add-one (and_from (t n) (all_below t n) h l)
+-- `all` over the numbers below n, by a closure that computes the test t.
+pub all_from_all : {F : Type 0} {g : Mut F (ℕ × Unit {0}) Bool} {f : F} {u : Range ℕ} {r : Bool} (t : ℕ → Bool) (n m : ℕ) → n ≡ m →
+    ChecksAll nat_range_steps g (record { start = 0; end = n }) f r u → ((x : ℕ) (b : Bool) (q : F) → Called g f (x, tt) b q → (q ≡ f) × (b ≡ t x)) →
+    r ≡ all_below t m
+all_from_all t n m e ran h = all_from_yields_List t _ _ _ ran (YieldsList-from_range 0 n n refl (omega arith)) h ∙ all_is_all_below t n ∙ ap (all_below t) e
 
--- One number fails, so not every number passes.
-pub all_fails : (t : ℕ → Bool) (n k : ℕ) → k < n → t k ≡ false → all_below t n ≡ false
-unfolding all_below
-all_fails t zero k l h = absurd (omega arith)
-all_fails t (suc n) k l h = elim (cases_eq k n) [
-  | inl e ↦ and_left (t n) (all_below t n) (ap t (sym e) ∙ h)
-  | inr e ↦ and_right (t n) (all_below t n) (all_fails t n k (omega arith) h)
-]
+-- The numbers below n, the last first.
+abbrev down : ℕ → List ℕ
+down zero = []
+down (suc n) = n ∷ down n
 
--- Below 0 no number passes.
-pub some_none : (t : ℕ → Bool) → some_below t 0 ≡ false
-unfolding some_below
-some_none t = refl
+-- A range that is taken from its end gives them.
+down_yields : (n : ℕ) (s : Range ℕ) → s.start ≡ 0 → s.end ≡ n → AlwaysYields nat_range_steps_back (λ x. x) s (down n)
+down_yields zero s a b = λ x j p. omega (arith, p.1.0)
+down_yields (suc n) s a b = ((λ j p. omega (arith, p.1.0)), λ x j p. (omega (arith, p.1.1, p.1.2), down_yields n j (p.0 ∙ a) (omega (arith, p.1.2))))
 
--- One more fails.
-pub some_more : (t : ℕ → Bool) (n : ℕ) → t n ≡ false → some_below t n ≡ false → some_below t (n + 1) ≡ false
-unfolding some_below
-some_more t n h l = rw add-one (or_from (t n) (some_below t n) h l)
+-- The first of them that passes is the nearest below the bound.
+find_is_nearest : (t : ℕ → Bool) (n : ℕ) → find t (down n) ≡ nearest t n
+unfolding nearest
+find_is_nearest t zero = refl
+find_is_nearest t (suc n) = ap (cond (t n) (Some n)) (find_is_nearest t n)
 
--- One number passes, so some number passes.
-pub some_hit : (t : ℕ → Bool) (n k : ℕ) → k < n → t k ≡ true → some_below t n ≡ true
-unfolding some_below
-some_hit t zero k l h = absurd (omega arith)
-some_hit t (suc n) k l h = elim (cases_eq k n) [
-  | inl e ↦ or_left (t n) (some_below t n) (ap t (sym e) ∙ h)
-  | inr e ↦ or_right (t n) (some_below t n) (some_hit t n k (omega arith) h)
-]
+-- What was found, as it is.
+as_found : (r : Option ℕ) → option_map (λ x. x) r ≡ r
+as_found None = refl
+as_found (Some x) = refl
+
+-- `rfind` over the numbers below n, by a closure that computes the test t.
+pub nearest_from_rfind : {F : Type 0} {g : Mut F (Bor ℕ × Unit {0}) Bool} {f : F} {r : Option ℕ} (t : ℕ → Bool) (n m : ℕ) → n ≡ m → (u : Range ℕ) →
+    FindsItem nat_range_steps_back g (record { start = 0; end = n }) f r u → ((x : ℕ) (b : Bool) (q : F) → CalledAt g f x b q → (q ≡ f) × (b ≡ t x)) →
+    r ≡ nearest t m
+nearest_from_rfind t n m e u ran h =
+    sym (as_found _)
+    ∙ find_from_yields_List {steps = nat_range_steps_back} {s = record { start = 0; end = n }} t u _ _ ran (record { runs = down_yields n (record { start = 0; end = n }) refl refl }) h
+    ∙ find_is_nearest t n
+    ∙ ap (nearest t) e
 
 -- Some number passes exactly where the search finds one.
 pub some_is_found : (t : ℕ → Bool) (n : ℕ) → some_below t n ≡ is_some (nearest t n)

@@ -1,4 +1,4 @@
--- Lists of events are equal in at most one way, and so are source records.
+-- Lists of events are equal in at most one way, and so are lists of source records.
 use Rattle.std.proofs.Common.{List}
 use base.Stored.{Coded-set, coded_list}
 use Rattle.events.specs.contracts.event.Event as event
@@ -9,5 +9,5 @@ use Rattle.witness.specs.declared.record.Source.{Source}
 pub events_set : IsSet (List Event)
 events_set = Coded-set (coded_list (event.the_row).coded)
 
-pub source_set : IsSet Source
-source_set = Coded-set (source.the_row).coded
+pub sources_set : IsSet (List Source)
+sources_set = Coded-set (coded_list (source.the_row).coded)

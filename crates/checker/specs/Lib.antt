@@ -5,3 +5,4 @@ pub mod Tests
 pub mod Verdict
 pub mod Rows
 pub mod Views
+pub mod Positions

@@ -1,5 +1,5 @@
 -- What the types of the code stand for.
-use Rattle.std.specs.Prelude.{ℕ, Bool, false, not, ◌&&◌, ◌||◌, List, nat_lt, slice_index_or}
+use Rattle.std.specs.Prelude.{ℕ, Bool, false, not, ◌&&◌, ◌||◌, ⊤, List, Ok, Err, Result, nat_lt, slice_index_or}
 use Rattle.instructions.specs.Kinds.{access}
 use Rattle.question.specs.Litmus.{Litmus}
 use Rattle.question.specs.Views.{litmus_of}
@@ -8,17 +8,21 @@ use Rattle.witness.specs.Views.{execution_of}
 use Rattle.checker.specs.Terms.{instruction}
 use Rattle.checker.specs.Tests.{rank}
 use Rattle.checker.specs.declared.evaluated.Evaluated.{Evaluated}
-use Rattle.checker.specs.declared.verdict.Verdict.{Verdict}
-use Rattle.checker.specs.declared.verdict.Verdict.TheVariants.{Accepted, Path, Order, Source, InstOrder, LoadValue}
+use Rattle.checker.specs.declared.axiom.Axiom.{Axiom}
+use Rattle.checker.specs.declared.axiom.Axiom.TheVariants.{Path, Order, Source, InstOrder, LoadValue}
 
--- The number of a verdict.
-abbrev pub verdict_number : Verdict → ℕ
-verdict_number Accepted = 0
-verdict_number Path = 1
-verdict_number Order = 2
-verdict_number Source = 3
-verdict_number InstOrder = 4
-verdict_number LoadValue = 5
+-- The number of an axiom.
+abbrev pub axiom_number : Axiom → ℕ
+axiom_number Path = 1
+axiom_number Order = 2
+axiom_number Source = 3
+axiom_number InstOrder = 4
+axiom_number LoadValue = 5
+
+-- The number of a verdict: 0 where the witness is accepted.
+abbrev pub verdict_number : Result ⊤ Axiom → ℕ
+verdict_number (Ok _) = 0
+verdict_number (Err a) = axiom_number a
 
 -- The question of an evaluated witness, and the witness.
 abbrev pub asked : Evaluated → Litmus

@@ -1,36 +1,23 @@
 // What a witness fixes: each register and each cell.
-ghost use Rattle.std.specs.Prelude.{◌≡◌, length, Some};
+ghost use Rattle.std.specs.Prelude.{◌≡◌};
 ghost use Rattle.question.specs.Views.{litmus_of};
 ghost use Rattle.witness.specs.Views.{execution_of};
-ghost use Rattle.events.specs.Events.{operand};
 ghost use Rattle.checker.specs.Fixed.{fixed_register, fixed_cell, last_store, left_by, cell_from};
 ghost use Rattle.checker.specs.Views.{asked, stated};
 
 use super::evaluated::Evaluated;
-use events::event::Event;
-use events::lookup::WritesRegister;
+use events::lookup::operand;
 use memory::cell::{Cell, Mark};
 use question::question::Question;
-use search::nearest_earlier;
 use witness::record::Access;
 use witness::witness::Witness;
-
-/// A register after the events: the result of its last writer, or 0.
-fn register_after(events: &[Event], register: u8) -> u16
-    ensures { result ≡ operand events.now (length events.now) (Some register) }
-{
-    match nearest_earlier(events, events.len(), &WritesRegister(register)) {
-        Some(writer) => events[writer].value,
-        None => 0,
-    }
-}
 
 /// The register that a witness fixes; 0 where there is no such processor or register.
 pub fn fixed_register(question: &Question, witness: &Witness, processor: u8, register: u8) -> u16
     ensures { result ≡ fixed_register (litmus_of question.now) (execution_of witness.now) processor register }
 {
     let evaluated = Evaluated::new(question, witness);
-    register_after(evaluated.events(processor as usize), register)
+    operand(evaluated.events(processor as usize), Some(register))
 }
 
 impl<'q, 'w> Evaluated<'q, 'w> {
@@ -38,12 +25,7 @@ impl<'q, 'w> Evaluated<'q, 'w> {
     fn last_store(&self, address: u16) -> Option<usize>
         ensures { result ≡ last_store (asked self.now) (stated self.now) address }
     {
-        for number in (0..self.accesses()).rev() {
-            if self.stores_to(address, self.ordered(number)) {
-                return Some(number);
-            }
-        }
-        None
+        (0..self.accesses()).rfind(|number| self.stores_to(address, self.ordered(*number).into()))
     }
 
     /// What a store leaves in its cell.
@@ -51,9 +33,7 @@ impl<'q, 'w> Evaluated<'q, 'w> {
         ensures { result ≡ left_by (asked self.now) (stated self.now) store }
     {
         Cell {
-            value: self
-                .event(store.processor as usize, store.position as usize)
-                .datum,
+            value: self.event(store.into()).datum,
             mark: Mark::Store {
                 processor: store.processor,
                 position: store.position,

@@ -1,6 +1,7 @@
 // The checker of witnesses.
 #![tactic(auto)]
 
+pub mod axiom;
 pub mod check;
 mod evaluated;
 pub mod fixed;
@@ -8,5 +9,5 @@ mod inst_order;
 mod load_value;
 mod order;
 mod paths;
+mod position;
 mod sources;
-pub mod verdict;

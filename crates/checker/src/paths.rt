@@ -1,5 +1,5 @@
 // The first test: each path runs from place 0 to the end of its code.
-ghost use Rattle.std.specs.Prelude.{◌≡◌, ℕ, ◌<◌, length};
+ghost use Rattle.std.specs.Prelude.{◌≡◌, length};
 ghost use Rattle.question.specs.Litmus.{code_at};
 ghost use Rattle.events.specs.Sources.{events};
 ghost use Rattle.checker.specs.Axioms.{leads_to};
@@ -35,12 +35,7 @@ fn place_fits(code: &[Instruction], events: &[Event], position: usize) -> bool
 fn places_fit(code: &[Instruction], events: &[Event]) -> bool
     ensures { result ≡ all_below (place_fits code.now events.now) (length events.now) }
 {
-    for position in 0..events.len() {
-        if !place_fits(code, events, position) {
-            return false;
-        }
-    }
-    true
+    (0..events.len()).all(|position| place_fits(code, events, position))
 }
 
 /// Whether the events run from place 0 to the end of the code.
@@ -62,15 +57,11 @@ impl<'q, 'w> Evaluated<'q, 'w> {
     fn all_run_through(&self) -> bool
         ensures { result ≡ all_below (λ p. runs_through (code_at (asked self.now) p) (events (asked self.now) (stated self.now) p)) (length (asked self.now).code) }
     {
-        for processor in 0..self.question.processors() {
-            if !self.path_runs_through(processor) {
-                return false;
-            }
-        }
-        true
+        (0..self.question.processors()).all(|processor| self.path_runs_through(processor))
     }
 
     /// Whether there is a path for each processor, each runs through, and there is a source record for each load.
+    #[tactic(auto, unfolding(crate::specs::Tests::path_test))]
     pub fn path_test(&self) -> bool
         ensures { result ≡ path_test (asked self.now) (stated self.now) }
     {

@@ -1,5 +1,5 @@
 // The third test: the source of each load is the start with its value, or a store to its cell with its data.
-ghost use Rattle.std.specs.Prelude.{◌≡◌, ◌<◌, length, slice_index};
+ghost use Rattle.std.specs.Prelude.{◌≡◌, length, slice_index};
 ghost use Rattle.events.specs.Sources.{path_at};
 ghost use Rattle.checker.specs.Terms.{cell, access_at};
 ghost use Rattle.checker.specs.Fixed.{stores_to};
@@ -7,52 +7,43 @@ ghost use Rattle.checker.specs.Tests.{all_below, names_start, names_store, is_so
 ghost use Rattle.checker.specs.Views.{asked, stated};
 
 use super::evaluated::Evaluated;
-use witness::record::{Access, Source};
+use super::position::Position;
+use witness::record::Source;
 
 impl<'q, 'w> Evaluated<'q, 'w> {
     /// The value that a cell starts with; 0 past the last cell.
     pub fn start_value(&self, address: u16) -> u16
         ensures { result ≡ slice_index (asked self.now).start address }
     {
-        let start = self.question.start();
-        if (address as usize) < start.len() {
-            start[address as usize]
-        } else {
-            0
-        }
+        self.question
+            .start()
+            .get(address as usize)
+            .copied()
+            .unwrap_or(0)
     }
 
     /// The cell that a position's address means.
-    pub fn cell(&self, processor: usize, position: usize) -> u16
-        ensures { result ≡ cell (asked self.now) (stated self.now) processor position }
+    pub fn cell(&self, at: Position) -> u16
+        ensures { result ≡ cell (asked self.now) (stated self.now) at.processor at.position }
     {
-        self.event(processor, position).address % 16
+        self.event(at).address % 16
     }
 
-    /// Whether an access is a store of the paths to a cell.
-    pub fn stores_to(&self, address: u16, access: Access) -> bool
-        ensures { result ≡ stores_to (asked self.now) (stated self.now) address access }
+    /// Whether a position is a store of the paths to a cell.
+    pub fn stores_to(&self, address: u16, at: Position) -> bool
+        ensures { result ≡ stores_to (asked self.now) (stated self.now) address (access_at at.processor at.position) }
     {
-        let processor = access.processor as usize;
-        let position = access.position as usize;
-        position < self.positions(processor)
-            && self.event(processor, position).instruction.stores()
-            && self.cell(processor, position) == address
+        at.position < self.positions(at.processor)
+            && self.event(at).instruction.stores()
+            && self.cell(at) == address
     }
 
     /// Whether a source record names a store to a cell with its data.
     fn names_store(&self, address: u16, source: Source) -> bool
         ensures { result ≡ names_store (asked self.now) (stated self.now) address source }
     {
-        let store = Access {
-            processor: source.processor,
-            position: source.position,
-        };
-        self.stores_to(address, store)
-            && source.value
-                == self
-                    .event(source.processor as usize, source.position as usize)
-                    .datum
+        let store = Position::from(source);
+        self.stores_to(address, store) && source.value == self.event(store).datum
     }
 
     /// Whether a source record names the start.
@@ -63,40 +54,22 @@ impl<'q, 'w> Evaluated<'q, 'w> {
     }
 
     /// Whether the source of a position, if it is a load, is the start with its value or a store to its cell with its data.
-    fn is_sourced(&self, processor: usize, position: usize) -> bool
-        requires { position < length (path_at (stated self.now) processor) }
-        ensures { result ≡ is_sourced (asked self.now) (stated self.now) processor position }
+    fn is_sourced(&self, at: Position) -> bool
+        ensures { result ≡ is_sourced (asked self.now) (stated self.now) at.processor at.position }
     {
-        if !self.event(processor, position).instruction.loads() {
+        if !self.event(at).instruction.loads() {
             return true;
         }
-        let source = self.source(processor, position);
-        let address = self.cell(processor, position);
+        let source = self.source(at);
+        let address = self.cell(at);
         (self.names_start(source) && source.value == self.start_value(address))
             || self.names_store(address, source)
-    }
-
-    /// Whether every load of a path has a source.
-    fn path_is_sourced(&self, processor: usize) -> bool
-        ensures { result ≡ all_below (is_sourced (asked self.now) (stated self.now) processor) (length (path_at (stated self.now) processor)) }
-    {
-        for position in 0..self.positions(processor) {
-            if !self.is_sourced(processor, position) {
-                return false;
-            }
-        }
-        true
     }
 
     /// Whether every load has a source.
     pub fn source_test(&self) -> bool
         ensures { result ≡ source_test (asked self.now) (stated self.now) }
     {
-        for processor in 0..self.processors() {
-            if !self.path_is_sourced(processor) {
-                return false;
-            }
-        }
-        true
+        self.every_position(|at| self.is_sourced(at))
     }
 }

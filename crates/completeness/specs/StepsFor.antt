@@ -8,6 +8,7 @@ use Rattle.witness.specs.Execution.{Execution}
 use Rattle.witness.specs.declared.record.Access.{Access}
 use Rattle.events.specs.declared.event.Event.{Event}
 use Rattle.events.specs.Sources.{events}
+use Rattle.machine.specs.Bytes.{step_bytes}
 use Rattle.machine.specs.Fires.{step, instruction}
 use Rattle.machine.specs.State.{State, started}
 use Rattle.machine.specs.Steps.{Outcome, refused, went, after, step_outcome, run_all}
@@ -95,10 +96,6 @@ carry_out q (a ∷ order) s =
 -- The steps for a witness: all fetches, then local steps before each access of the order and after the last.
 unfoldable pub steps_for : Litmus → Execution → List Step
 steps_for q w = fetches q w ++ (carry_out q w.order (run_all q (started q) (fetches q w))).steps
-
--- The bytes of a step, and of steps.
-abbrev pub step_bytes : Step → List ℕ
-step_bytes st = st.rule ∷ st.processor ∷ st.position ∷ st.guess ∷ []
 
 abbrev pub bytes_of_steps : List Step → List ℕ
 bytes_of_steps sts = flat_map step_bytes sts

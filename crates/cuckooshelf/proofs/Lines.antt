@@ -1,14 +1,9 @@
 -- The parts of a line are those of a case.
-use Rattle.std.proofs.Common.{◌≡◌, ℕ, Bool, true, false, List, [], ◌∷◌, ◌++◌, length, Some, codes, Decides, Option, sym, refl, ap, ◌∙◌, subst, arith}
+use Rattle.std.proofs.Common.{◌≡◌, ℕ, Bool, true, false, List, ◌∷◌, ◌++◌, Some, codes, Decides, Option, sym, ap, ◌∙◌, subst, arith}
 use Rattle.std.proofs.lemmas.Slice.Eq.{bytes_eq-Decides}
 use Rattle.std.specs.Option.{option_map}
 use Rattle.std.specs.Str.{bytes_eq}
 use Rattle.cuckooshelf.specs.Lines.{Case}
-
--- A line without bytes is empty.
-pub none_is_empty : (line : List ℕ) → length line ≡ 0 → line ≡ []
-none_is_empty [] h = refl
-none_is_empty (b ∷ line) h = absurd (omega arith)
 
 -- A word, a blank, operands, an arrow and an answer are a case.
 pub case_from_parts : {line form rest operands expected : List ℕ} → line ≡ form ++ (32 ∷ rest) → rest ≡ operands ++ (codes " => " ++ expected) →

@@ -7,10 +7,14 @@ use Rattle.fields.specs.Refusals.{refusal_number}
 use Rattle.hexadecimal.specs.Hex.{hex_bytes}
 use Rattle.question.specs.Read.{question_of}
 
+-- Refused, with the number of the refusal.
+abbrev pub refused_answer : Refusal → List ℕ
+refused_answer e = codes "refused " ++ decimal (refusal_number e)
+
 -- Read, or refused with its number.
 abbrev pub read_answer : {V : Type 0} → Result V Refusal → List ℕ
 read_answer (Ok v) = codes "ok"
-read_answer (Err e) = codes "refused " ++ decimal (refusal_number e)
+read_answer (Err e) = refused_answer e
 
 -- The answer to `question Q`; none where Q is not in hexadecimal.
 abbrev pub question_answer : List ℕ → Option (List ℕ)

@@ -1,113 +1,55 @@
-// Why the program ends with status 1.
+// Why a command does not do what it is called for.
+use super::reading::Refused;
 use std::alloc::AllocError;
-use std::{fmt, io};
+use std::io;
+use thiserror::Error;
 
 /// What went wrong.
-#[derive(Drop)]
+#[derive(Debug, Drop, Error)]
 pub enum Failure {
+    #[error("no command is called {0:?}; cuckooshelf help lists the commands")]
     UnknownCommand(String),
+    #[error("the command wants a file; cuckooshelf help shows how to call it")]
     FileWanting,
+    #[error("the command wants two files; cuckooshelf help shows how to call it")]
     FilesWanting,
     /// An option without the name of a memory.
+    #[error("two files, then at most --memory table or --memory list")]
     MemoryWanting,
+    #[error("no option is called {0:?}; --memory is one")]
     UnknownOption(String),
+    #[error("no memory is called {0:?}; table and list are")]
     UnknownMemory(String),
+    #[error("no memory model is called {0:?}; gam and sc are")]
     UnknownModel(String),
+    #[error("no answer is called {0:?}; steps and witness are")]
     UnknownAnswer(String),
     /// A marking without question, kind of answer and answer.
+    #[error("mark wants a question, then steps or witness, then the answer; cuckooshelf help shows how to call it")]
     MarkWanting,
     /// A check without model, question and witness.
+    #[error("check wants gam or sc, then two files; cuckooshelf help shows how to call it")]
     CheckWanting,
     /// The file of steps ends inside of a step.
+    #[error("{0} ends inside of a step: a step is four bytes")]
     PartOfStep(String),
+    #[error("too many arguments; cuckooshelf help shows how to call a command")]
     TooManyOperands,
     /// The file could not be read.
+    #[error("cannot read {0}: {1}")]
     Unreadable(String, io::Error),
+    /// Bytes are refused, which is an answer: it is printed, with status 0.
+    #[error("{0}")]
+    Refused(#[from] Refused),
     /// Some lines of a file of cases differ.
+    #[error("lines differ")]
     Differing,
-    Memory,
+    #[error("no memory left")]
+    Memory(#[from(alloc)] AllocError),
     /// The arguments could not be read.
+    #[error("cannot read the arguments: {0}")]
     Arguments(io::Error),
     /// The output could not be written.
-    Output(io::Error),
-}
-
-impl From<AllocError> for Failure {
-    fn from(_e: AllocError) -> Failure {
-        Failure::Memory
-    }
-}
-
-impl From<io::Error> for Failure {
-    fn from(e: io::Error) -> Failure {
-        Failure::Output(e)
-    }
-}
-
-impl fmt::Display for Failure {
-    fn fmt<W: fmt::Write>(&self, f: &mut fmt::Formatter<W>) -> fmt::Result {
-        match self {
-            Failure::UnknownCommand(word) => {
-                write!(
-                    f,
-                    "no command is called {word:?}; cuckooshelf help lists the commands"
-                )
-            }
-            Failure::FileWanting => {
-                write!(
-                    f,
-                    "the command wants a file; cuckooshelf help shows how to call it"
-                )
-            }
-            Failure::FilesWanting => {
-                write!(
-                    f,
-                    "the command wants two files; cuckooshelf help shows how to call it"
-                )
-            }
-            Failure::MemoryWanting => write!(
-                f,
-                "two files, then at most --memory table or --memory list"
-            ),
-            Failure::UnknownOption(word) => write!(
-                f,
-                "no option is called {word:?}; --memory is one"
-            ),
-            Failure::UnknownMemory(word) => {
-                write!(f, "no memory is called {word:?}; table and list are")
-            }
-            Failure::UnknownModel(word) => {
-                write!(f, "no memory model is called {word:?}; gam and sc are")
-            }
-            Failure::UnknownAnswer(word) => {
-                write!(f, "no answer is called {word:?}; steps and witness are")
-            }
-            Failure::MarkWanting => {
-                write!(
-                    f,
-                    "mark wants a question, then steps or witness, then the answer; cuckooshelf help shows how to call it"
-                )
-            }
-            Failure::CheckWanting => {
-                write!(
-                    f,
-                    "check wants gam or sc, then two files; cuckooshelf help shows how to call it"
-                )
-            }
-            Failure::PartOfStep(path) => {
-                write!(f, "{path} ends inside of a step: a step is four bytes")
-            }
-            Failure::TooManyOperands => {
-                write!(
-                    f,
-                    "too many arguments; cuckooshelf help shows how to call a command"
-                )
-            }
-            Failure::Unreadable(path, e) => write!(f, "cannot read {path}: {e}"),
-            Failure::Differing => write!(f, "lines differ"),
-            Failure::Memory => write!(f, "no memory left"),
-            Failure::Arguments(e) => write!(f, "cannot read the arguments: {e}"),
-            Failure::Output(e) => write!(f, "cannot write the output: {e}"),
-        }
-    }
+    #[error("cannot write the output: {0}")]
+    Output(#[from] io::Error),
 }

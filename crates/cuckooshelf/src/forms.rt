@@ -8,6 +8,7 @@ pub mod check;
 pub mod pair;
 pub mod question_form;
 pub mod rebuild;
+pub mod refused;
 pub mod run;
 
 /// A form of case: operands, to which there is an answer in words.

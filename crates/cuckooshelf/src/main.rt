@@ -6,25 +6,28 @@ use commands::check::Check;
 use commands::help::Help;
 use commands::list_question::ListQuestion;
 use commands::list_witness::ListWitness;
-use commands::mark::{AnswerKind, MarkAnswer};
+use commands::mark::MarkAnswer;
 use commands::rebuild::Rebuild;
 use commands::run::Run;
 use commands::sample::Sample;
 use commands::vectors::CompareVectors;
 use failure::Failure;
 use memories::MemoryKind;
-use models::{Model, Named};
+use models::Model;
 use std::env;
 use std::process::ExitCode;
+use words::named;
 
 mod commands;
 mod failure;
 mod files;
 mod forms;
-mod grade_text;
+mod mark_text;
 mod memories;
 mod models;
+mod reading;
 mod run_texts;
+mod words;
 
 /// The one operand of a command that takes a file.
 fn file(operands: &[String]) -> Result<&str, Failure> {
@@ -35,33 +38,27 @@ fn file(operands: &[String]) -> Result<&str, Failure> {
     }
 }
 
-/// The memory that an option names.
-fn memory(option: &String, name: &String) -> Result<MemoryKind, Failure> {
+/// The memory that an option and a name state; the table where they are left out.
+fn memory(words: &[String]) -> Result<MemoryKind, Failure> {
+    let [option, name] = words else {
+        return Ok(MemoryKind::Table);
+    };
     if option.as_str() != "--memory" {
         return Err(Failure::UnknownOption(option.clone()?));
     }
-    match name.as_str() {
-        "table" => Ok(MemoryKind::Table),
-        "list" => Ok(MemoryKind::List),
-        _ => Err(Failure::UnknownMemory(name.clone()?)),
-    }
+    named(name, Failure::UnknownMemory)
 }
 
 /// The run that operands state: two files, and the memory if it is not the table.
 fn stated_run(operands: &[String]) -> Result<Run<'_>, Failure> {
     match operands {
-        [question, steps] => Ok(Run {
-            question: question.as_str(),
-            steps: steps.as_str(),
-            memory: MemoryKind::Table,
-        }),
-        [question, steps, option, name] => Ok(Run {
-            question: question.as_str(),
-            steps: steps.as_str(),
-            memory: memory(option, name)?,
-        }),
         [] | [_] => Err(Failure::FilesWanting),
         [_, _, _] => Err(Failure::MemoryWanting),
+        [question, steps, words @ ..] if words.len() <= 2 => Ok(Run {
+            question: question.as_str(),
+            steps: steps.as_str(),
+            memory: memory(words)?,
+        }),
         _ => Err(Failure::TooManyOperands),
     }
 }
@@ -69,14 +66,11 @@ fn stated_run(operands: &[String]) -> Result<Run<'_>, Failure> {
 /// The check that operands state: a memory model and two files.
 fn stated_check(operands: &[String]) -> Result<Check<'_>, Failure> {
     match operands {
-        [word, question, witness] => match Model::named(word.as_str()) {
-            Some(model) => Ok(Check {
-                model,
-                question: question.as_str(),
-                witness: witness.as_str(),
-            }),
-            None => Err(Failure::UnknownModel(word.clone()?)),
-        },
+        [word, question, witness] => Ok(Check {
+            model: named(word, Failure::UnknownModel)?,
+            question: question.as_str(),
+            witness: witness.as_str(),
+        }),
         [] | [_] | [_, _] => Err(Failure::CheckWanting),
         _ => Err(Failure::TooManyOperands),
     }
@@ -94,31 +88,16 @@ fn stated_rebuild(operands: &[String]) -> Result<Rebuild<'_>, Failure> {
     }
 }
 
-/// The kind of answer that a word names.
-fn answer_kind(word: &String) -> Result<AnswerKind, Failure> {
-    match word.as_str() {
-        "steps" => Ok(AnswerKind::Steps),
-        "witness" => Ok(AnswerKind::Witness),
-        _ => Err(Failure::UnknownAnswer(word.clone()?)),
-    }
-}
-
 /// The marking that operands state: a question, a kind of answer, an answer, and the memory if it is not the table.
 fn stated_mark(operands: &[String]) -> Result<MarkAnswer<'_>, Failure> {
     match operands {
-        [question, kind, answer] => Ok(MarkAnswer {
-            question: question.as_str(),
-            kind: answer_kind(kind)?,
-            answer: answer.as_str(),
-            memory: MemoryKind::Table,
-        }),
-        [question, kind, answer, option, name] => Ok(MarkAnswer {
-            question: question.as_str(),
-            kind: answer_kind(kind)?,
-            answer: answer.as_str(),
-            memory: memory(option, name)?,
-        }),
         [] | [_] | [_, _] | [_, _, _, _] => Err(Failure::MarkWanting),
+        [question, kind, answer, words @ ..] if words.len() <= 2 => Ok(MarkAnswer {
+            question: question.as_str(),
+            kind: named(kind, Failure::UnknownAnswer)?,
+            answer: answer.as_str(),
+            memory: memory(words)?,
+        }),
         _ => Err(Failure::TooManyOperands),
     }
 }
@@ -148,11 +127,12 @@ fn dispatch(rt: &HostRuntime, words: &[String]) -> Result<(), Failure> {
 }
 
 fn run(rt: &HostRuntime) -> Result<(), Failure> {
-    let words: Vec<String> = match env::args(rt) {
-        Ok(args) => args.skip(1).collect(rt.alloc())?,
-        Err(e) => return Err(Failure::Arguments(e)),
-    };
-    dispatch(rt, &words)
+    let args = env::args(rt).map_err(Failure::Arguments)?;
+    let words: Vec<String> = args.skip(1).collect(rt.alloc())?;
+    match dispatch(rt, &words) {
+        Err(Failure::Refused(refused)) => Ok(rt.println(refused)?),
+        answer => answer,
+    }
 }
 
 fn main(rt: HostRuntime) -> ExitCode {

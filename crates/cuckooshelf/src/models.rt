@@ -1,4 +1,6 @@
 // The memory models that a witness can be checked under.
+use super::words::Unknown;
+use std::str::FromStr;
 
 /// A memory model, by name.
 #[derive(Clone, Copy)]
@@ -7,18 +9,14 @@ pub enum Model {
     Sc,
 }
 
-/// What a word can name.
-pub trait Named {
-    /// What the word names, if it names anything.
-    fn named(word: &str) -> Option<Self>;
-}
+impl FromStr for Model {
+    type Err = Unknown;
 
-impl Named for Model {
-    fn named(word: &str) -> Option<Model> {
+    fn from_str(word: &str) -> Result<Model, Unknown> {
         match word {
-            "gam" => Some(Model::Gam),
-            "sc" => Some(Model::Sc),
-            _ => None,
+            "gam" => Ok(Model::Gam),
+            "sc" => Ok(Model::Sc),
+            _ => Err(Unknown),
         }
     }
 }

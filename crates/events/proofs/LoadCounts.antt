@@ -1,5 +1,10 @@
 -- The number of loads of a path and of the first paths, step by step, and its bounds.
-use Rattle.std.proofs.Common.{◌≡◌, ℕ, zero, suc, ◌+◌, ◌-◌, ◌*◌, ◌≤◌, Bool, true, false, cond, List, [], length, get_or, sym, refl, ap, ◌∙◌, inl, inr, add-one, arith}
+use Rattle.std.proofs.Common.{◌≡◌, ℕ, zero, suc, ◌+◌, ◌-◌, ◌*◌, ◌≤◌, Bool, true, false, cond, List, [], length, get_or, sym, refl, ap, ◌∙◌, inl, inr, add-one, arith, map, take}
+use Rattle.std.specs.Prelude.{min}
+use Rattle.std.specs.List.{count_by, sum, range_with_len}
+use Rattle.std.proofs.lemmas.List.Filters.{length-filter_more}
+use Rattle.std.proofs.lemmas.List.Sums.{length-filter}
+use Rattle.std.proofs.lemmas.List.FromFn.{sum_by-map-range_with_len_more}
 use Rattle.std.proofs.ByRecursion.{All-get_or}
 use Rattle.std.proofs.lemmas.List.{get_or_past}
 use Rattle.std.proofs.lemmas.Bool.{cases_lt}
@@ -51,6 +56,31 @@ pub before_next : (q : Litmus) (w : Execution) (p : ℕ) →
 unfolding loads_before
 before_next q w p = rw add-one refl
 
+-- As many loads as places whose instruction is one.
+pub loads_counted : (code : List Instruction) (places : List ℕ) (n : ℕ) → n ≤ length places →
+    loads_upto code places n ≡ count_by (λ p. loads (instruction_at code p)) (take n places)
+unfolding loads_upto
+loads_counted code places zero l = refl
+loads_counted code places (suc n) l =
+    let t = λ (p : ℕ). loads (instruction_at code p) in
+    ap (λ m. m + cond (t (get_or places n 0)) 1 0) (loads_counted code places n (omega arith) ∙ sym (length-filter t (take n places)))
+    ∙ sym (length-filter_more t places n 0 (omega arith))
+    ∙ length-filter t (take (n + 1) places)
+    ∙ ap (λ m. count_by t (take m places)) (add-one n)
+
+-- How many loads the path of processor p has.
+abbrev pub path_loads : Litmus → Execution → ℕ → ℕ
+path_loads q w p = loads_upto (code_at q p) (path_at w p) (length (path_at w p))
+
+-- The loads of the first paths are those of each, added.
+pub loads_added : (q : Litmus) (w : Execution) (n : ℕ) → sum (map (path_loads q w) (range_with_len 0 n)) ≡ loads_before q w n
+unfolding loads_before
+loads_added q w zero = refl
+loads_added q w (suc n) =
+    ap (λ m. sum (map (path_loads q w) (range_with_len 0 m))) (sym (add-one n))
+    ∙ sum_by-map-range_with_len_more (λ k. k) (path_loads q w) 0 n n (omega arith)
+    ∙ ap (λ m. m + path_loads q w n) (loads_added q w n)
+
 -- A path past the last has no loads.
 path_past : (q : Litmus) (w : Execution) (p : ℕ) → length w.paths ≤ p →
     loads_upto (code_at q p) (path_at w p) (length (path_at w p)) ≡ 0
@@ -90,4 +120,11 @@ pub before_few : (q : Litmus) (w : Execution) (p : ℕ) → Within w → loads_b
 before_few q w p h = elim (cases_lt p (length w.paths)) [
   | inl l ↦ omega (arith, sixteen_each q w p h, h.few_paths)
   | inr l ↦ omega (arith, before_all q w p l, sixteen_each q w (length w.paths) h, h.few_paths)
+]
+
+-- Those of the paths that there are, of the first processors, are those of the first processors.
+pub before_least : (q : Litmus) (w : Execution) (p n : ℕ) → n ≡ min p (length w.paths) → loads_before q w n ≡ loads_before q w p
+before_least q w p n e = elim (cases_lt p (length w.paths)) [
+  | inl l ↦ ap (loads_before q w) (omega arith)
+  | inr l ↦ (let whole : n ≡ length w.paths = omega arith in ap (loads_before q w) whole ∙ before_all q w p l)
 ]

@@ -2,7 +2,7 @@
 ghost use Rattle.std.specs.Prelude.{◌≡◌, ◌+◌, ◌≤◌, map, length, get_or, slice_index_or};
 ghost use Rattle.std.specs.List.{range_with_len};
 ghost use Rattle.bounded.specs.Items.{items};
-ghost use Rattle.events.specs.Events.{operand, next_event, events_upto};
+ghost use Rattle.events.specs.Events.{next_event, events_upto};
 ghost use Rattle.events.specs.Sources.{loads_upto, no_source, events};
 ghost use Rattle.events.specs.Views.{all_events, all_sources, path_sources, events_of, sources_of};
 ghost use Rattle.question.specs.Views.{litmus_of};
@@ -10,34 +10,13 @@ ghost use Rattle.witness.specs.Views.{execution_of};
 
 use super::event::Event;
 use super::loads::{instruction_at, is_load, loads_before};
-use super::lookup::{NO_EVENT, WritesRegister};
+use super::lookup::{NO_EVENT, operand};
 use super::path::PathEvents;
 use bounded::vector::Bounded;
 use instructions::instruction::Instruction;
 use question::question::Question;
-use search::nearest_earlier;
 use witness::record::Source;
 use witness::witness::Witness;
-
-/// What stands past the last source record.
-const NO_SOURCE: Source = Source {
-    processor: 0,
-    position: 0,
-    value: 0,
-};
-
-/// The value of an operand of the event that comes next.
-fn operand(events: &[Event], register: Option<u8>) -> u16
-    ensures { result ≡ operand events.now (length events.now) register }
-{
-    let Some(register) = register else {
-        return 0;
-    };
-    match nearest_earlier(events, events.len(), &WritesRegister(register)) {
-        None => 0,
-        Some(j) => events[j].value,
-    }
-}
 
 /// The event that comes next, at a place of the code; a load takes the stated value.
 fn next_event(code: &[Instruction], events: &[Event], place: u8, stated: u16) -> Event
@@ -65,11 +44,7 @@ fn next_event(code: &[Instruction], events: &[Event], place: u8, stated: u16) ->
 fn source_at(records: &[Source], number: usize) -> Source
     ensures { result ≡ slice_index_or records.now number no_source }
 {
-    if number < records.len() {
-        records[number]
-    } else {
-        NO_SOURCE
-    }
+    records.get(number).copied().unwrap_or_default()
 }
 
 /// The source record of each position of a path, which counts at loads; `first` is the number of the first.
@@ -82,7 +57,7 @@ fn path_sources(
     requires { (length places.now ≤ 16) × (first ≤ 64) }
     ensures { items result ≡ map (λ i. get_or records.now (first + loads_upto code.now places.now i) no_source) (range_with_len 0 (length places.now)) }
 {
-    let mut sources = Bounded::new(NO_SOURCE);
+    let mut sources = Bounded::new(Source::default());
     let mut number = first;
     for place in places {
         sources.push(source_at(records, number));
@@ -99,9 +74,9 @@ fn path_events(code: &[Instruction], places: &[u8], sources: &[Source]) -> Bound
     ensures { items result ≡ events_upto code.now places.now (λ i. (get_or sources.now i no_source).value) (length places.now) }
 {
     let mut events = Bounded::new(NO_EVENT);
-    for i in 0..places.len() {
+    for (i, place) in places.iter().enumerate() {
         let stated = source_at(sources, i).value;
-        let event = next_event(code, events.as_slice(), places[i], stated);
+        let event = next_event(code, events.as_slice(), *place, stated);
         events.push(event);
     }
     events
@@ -127,7 +102,7 @@ pub fn evaluate(question: &Question, witness: &Witness) -> Bounded<PathEvents, 4
 {
     let mut rows = Bounded::new(PathEvents {
         events: Bounded::new(NO_EVENT),
-        sources: Bounded::new(NO_SOURCE),
+        sources: Bounded::new(Source::default()),
     });
     for p in 0..witness.processors() {
         rows.push(path(question, witness, p));

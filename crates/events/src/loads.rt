@@ -15,11 +15,7 @@ use witness::witness::Witness;
 pub(super) fn instruction_at(code: &[Instruction], place: u8) -> Instruction
     ensures { result ≡ instruction_at code.now place }
 {
-    if (place as usize) < code.len() {
-        code[place as usize]
-    } else {
-        NO_INSTRUCTION
-    }
+    code.get(place as usize).copied().unwrap_or(NO_INSTRUCTION)
 }
 
 /// Whether the instruction at a place of the code is a load.
@@ -33,13 +29,7 @@ pub(super) fn is_load(code: &[Instruction], place: u8) -> bool
 fn path_loads(code: &[Instruction], places: &[u8]) -> usize
     ensures { result ≡ loads_upto code.now places.now (length places.now) }
 {
-    let mut count = 0;
-    for place in places {
-        if is_load(code, *place) {
-            count += 1;
-        }
-    }
-    count
+    places.iter().filter(|place| is_load(code, **place)).count()
 }
 
 /// How many loads the paths of the first processors have.
@@ -47,15 +37,7 @@ pub fn loads_before(question: &Question, witness: &Witness, processors: usize) -
     ensures count { result ≡ loads_before (litmus_of question.now) (execution_of witness.now) processors }
     ensures few { result ≤ 64 }
 {
-    let paths = witness.processors();
-    let last = if processors < paths {
-        processors
-    } else {
-        paths
-    };
-    let mut count = 0;
-    for p in 0..last {
-        count += path_loads(question.code(p), witness.path(p));
-    }
-    count
+    (0..processors.min(witness.processors()))
+        .map(|p| path_loads(question.code(p), witness.path(p)))
+        .sum()
 }

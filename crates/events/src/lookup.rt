@@ -1,10 +1,11 @@
 // Events of a path by their position, and by the register that they write.
-ghost use Rattle.std.specs.Prelude.{◌≡◌};
-ghost use Rattle.events.specs.Events.{at, writes_register};
+ghost use Rattle.std.specs.Prelude.{◌≡◌, length};
+ghost use Rattle.events.specs.Events.{at, operand, writes_register};
 
 use super::event::Event;
 use instructions::instruction::Instruction;
-use search::Matches;
+use instructions::register::WritesRegister;
+use search::{Matches, nearest_earlier};
 
 /// What stands past the end of the code: an addition of nothing.
 pub(super) const NO_INSTRUCTION: Instruction = Instruction::Add {
@@ -24,10 +25,6 @@ pub(super) const NO_EVENT: Event = Event {
     datum: 0,
 };
 
-/// Events that write a register.
-#[derive(Clone, Copy)]
-pub struct WritesRegister(pub u8);
-
 impl Matches<WritesRegister> for Event {
     ghost hits = { λ e k. writes_register k.0 e };
 
@@ -40,9 +37,14 @@ impl Matches<WritesRegister> for Event {
 pub fn event_at(events: &[Event], position: usize) -> Event
     ensures { result ≡ at events.now position }
 {
-    if position < events.len() {
-        events[position]
-    } else {
-        NO_EVENT
-    }
+    events.get(position).copied().unwrap_or(NO_EVENT)
+}
+
+/// The value of an operand after the events: the result of the last writer of its register, or 0.
+pub fn operand(events: &[Event], register: Option<u8>) -> u16
+    ensures { result ≡ operand events.now (length events.now) register }
+{
+    register
+        .and_then(|register| nearest_earlier(events, events.len(), &WritesRegister(register)))
+        .map_or(0, |writer| event_at(events, writer).value)
 }

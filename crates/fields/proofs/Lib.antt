@@ -1,3 +1,3 @@
-pub mod Headers
 pub mod Rows
+pub mod Chunks
 pub mod Relations

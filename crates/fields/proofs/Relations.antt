@@ -2,6 +2,7 @@
 use Rattle.std.proofs.Common.{◌≡◌, ℕ, zero, suc, ◌/◌, ◌%◌, ◌<◌, ◌≤◌, Bool, true, false, cond, ltb, List, [], ◌∷◌, ◌++◌, length, take, drop, Ok, Err, Result, sym, refl, ap, ◌∙◌, inl, inr, arith}
 use Rattle.std.specs.List.{AllByRecursion}
 use Rattle.std.proofs.lemmas.List.{length-append, length-take-le, take-append-drop}
+use Rattle.std.proofs.Math.Seq.{take-append_seam, drop-append_seam}
 use Rattle.std.proofs.ByRecursion.{All-drop}
 use Rattle.std.proofs.lemmas.Bool.{le-ltb, lt-ltb, ltb-true, ltb-false}
 use Rattle.fields.specs.declared.refusal.Refusal.{Refusal}
@@ -9,16 +10,6 @@ use Rattle.fields.specs.declared.refusal.Refusal.TheVariants.{FieldPastInput, Ta
 use Rattle.fields.specs.Fields.{Cut, word, field_bytes, split_field}
 use Rattle.fields.specs.Rows.{Format, RunsPast, then, tested, field_step, read_row, Reads, Faults, RowsAreReadAsTheyMean}
 use Rattle.fields.proofs.Rows.{then_err, step_parts, step_shorter, row_end, row_more, row_fault}
-
--- The front of two joined lists is the first.
-pub take_front : {X : Type 0} (xs ys : List X) → take (length xs) (xs ++ ys) ≡ xs
-take_front [] ys = refl
-take_front (x ∷ xs) ys = ap (◌∷◌ x) (take_front xs ys)
-
--- What stands behind the front of two joined lists is the second.
-pub drop_front : {X : Type 0} (xs ys : List X) → drop (length xs) (xs ++ ys) ≡ ys
-drop_front [] ys = refl
-drop_front (x ∷ xs) ys = drop_front xs ys
 
 -- A number as two bytes and back.
 pub word_joined : (n : ℕ) → word (n / 256) (n % 256) ≡ n
@@ -30,7 +21,7 @@ pub split_front : (tag : ℕ) (contents rest : List ℕ) →
 split_front tag contents rest =
     let n = length contents in
     let l : ltb (length (contents ++ rest)) n ≡ false = le-ltb (length (contents ++ rest)) n (simp length-append (omega arith)) in
-    rw (word_joined (length contents), l, take_front contents rest, drop_front contents rest)
+    rw (word_joined (length contents), l, take-append_seam contents rest, drop-append_seam contents rest)
 
 -- The field and the bytes behind it make up the bytes.
 pub record InFront (b : List ℕ) (c : Cut) : Type 0 where
@@ -40,9 +31,9 @@ pub record InFront (b : List ℕ) (c : Cut) : Type 0 where
 
 -- A field that is cut off was in front of the bytes behind it.
 pub split_in_front : (b : List ℕ) (c : Cut) → AllByRecursion (λ x. x < 256) b → split_field b ≡ Ok c → InFront b c
-split_in_front [] c w h = absurd (let z : ◌≡◌ {A = ℕ} 0 1 = cc in omega arith)
-split_in_front (tag ∷ []) c w h = absurd (let z : ◌≡◌ {A = ℕ} 0 1 = cc in omega arith)
-split_in_front (tag ∷ high ∷ []) c w h = absurd (let z : ◌≡◌ {A = ℕ} 0 1 = cc in omega arith)
+split_in_front [] c w h = cc
+split_in_front (tag ∷ []) c w h = cc
+split_in_front (tag ∷ high ∷ []) c w h = cc
 split_in_front (tag ∷ high ∷ low ∷ b) c w h = go (ltb (length b) (word high low)) refl h
   where
     n : ℕ
@@ -63,7 +54,7 @@ split_in_front (tag ∷ high ∷ low ∷ b) c w h = go (ltb (length b) (word hig
         }
 
     go : (t : Bool) → ltb (length b) n ≡ t → cond t (Err FieldPastInput) (Ok whole) ≡ Ok c → InFront (tag ∷ high ∷ low ∷ b) c
-    go true q e = absurd (let z : ◌≡◌ {A = ℕ} 0 1 = cc in omega arith)
+    go true q e = cc
     go false q e = let p : whole ≡ c = cc in rw (← p) (holds (ltb-false (length b) n q))
 
 -- Where no field is cut off, one runs past the bytes.
@@ -82,7 +73,7 @@ split_past (tag ∷ high ∷ low ∷ b) e l h = go (ltb (length b) n) refl h
     go : (t : Bool) → ltb (length b) n ≡ t → cond t (Err FieldPastInput) (Ok whole) ≡ Err e →
         RunsPast (tag ∷ high ∷ low ∷ b) × (e ≡ FieldPastInput)
     go true q h = (RunsPast.contents_cut tag high low b (ltb-true (length b) n q), cc)
-    go false q h = absurd (let z : ◌≡◌ {A = ℕ} 0 1 = cc in omega arith)
+    go false q h = cc
 
 -- A field that runs past the bytes is not cut off.
 pub past_split : (b : List ℕ) → RunsPast b → (0 < length b) × (split_field b ≡ Err FieldPastInput)
@@ -104,8 +95,8 @@ module _ {S V : Type 0} (F : Format S V) where
       go : (a f : Bool) → F.allowed s c.tag ≡ a → F.fits c.tag (length c.contents) ≡ f →
           cond a (cond f (F.taken s c.tag c.contents) (Err LengthNotAllowed)) (Err TagNotAllowed) ≡ Ok t → Passed s c t
       go true true p q h = record { allowed = p; fits = q; taken = h }
-      go true false p q h = absurd (let z : ◌≡◌ {A = ℕ} 0 1 = cc in omega arith)
-      go false f p q h = absurd (let z : ◌≡◌ {A = ℕ} 0 1 = cc in omega arith)
+      go true false p q h = cc
+      go false f p q h = cc
 
   -- A field in front that passes its tests is taken.
   pub step_front : (s t : S) (tag : ℕ) (contents rest : List ℕ) → Passed s (record { tag = tag; contents = contents; rest = rest }) t →
@@ -140,7 +131,7 @@ module _ {S V : Type 0} (F : Format S V) where
         | inr p ↦
             elim (then_err (tested F s p.0) (λ t. Ok (t, p.0.rest)) e p.2) [
               | inl q ↦ tested_fault s e b p.0 (split_in_front b p.0 w p.1) q
-              | inr q ↦ absurd (let r = q.2 in let z : ◌≡◌ {A = ℕ} 0 1 = cc in omega arith)
+              | inr q ↦ let r = q.2 in cc
             ]
       ]
 
@@ -184,7 +175,7 @@ module _ {S V : Type 0} (F : Format S V) where
           rw g.front
           (Reads.field_first g.tag g.contents p.1 p.0 g.short g.passed.allowed g.passed.fits g.passed.taken
           (f p.0 p.1 (omega arith) g.bytes (sym m ∙ h)))
-      go (Err d) e f = let q = row_fault F (x ∷ b) s d (omega arith) e in absurd (let z : ◌≡◌ {A = ℕ} 0 1 = cc in omega arith)
+      go (Err d) e f = let q = row_fault F (x ∷ b) s d (omega arith) e in cc
 
   -- A row that is refused has that fault first, for bytes of which there are at most n.
   faults_within : (n : ℕ) (s : S) (b : List ℕ) (d : Refusal) → length b ≤ n → AllByRecursion (λ x. x < 256) b → read_row F s b ≡ Err d → Faults F s b d

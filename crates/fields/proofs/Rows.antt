@@ -9,7 +9,7 @@ use Rattle.fields.specs.Rows.{Format, then, tested, field_step, read_within, rea
 -- A value that came through two answers came through the first.
 pub then_ok : {A B : Type 0} (a : Result A Refusal) (f : A → Result B Refusal) (y : B) → then a f ≡ Ok y → (x : A) × (a ≡ Ok x) × (f x ≡ Ok y)
 then_ok (Ok x) f y h = (x, refl, h)
-then_ok (Err e) f y h = absurd (let z : ◌≡◌ {A = ℕ} 0 1 = cc in omega arith)
+then_ok (Err e) f y h = cc
 
 -- A refusal is the first answer's, or the second's on the first one's value.
 pub then_err : {A B : Type 0} (a : Result A Refusal) (f : A → Result B Refusal) (e : Refusal) → then a f ≡ Err e →
@@ -19,16 +19,16 @@ then_err (Err d) f e h = inl cc
 
 -- The bytes behind a field are fewer.
 pub split_shorter : (b : List ℕ) (c : Cut) → split_field b ≡ Ok c → length c.rest < length b
-split_shorter [] c h = absurd (let z : ◌≡◌ {A = ℕ} 0 1 = cc in omega arith)
-split_shorter (tag ∷ []) c h = absurd (let z : ◌≡◌ {A = ℕ} 0 1 = cc in omega arith)
-split_shorter (tag ∷ high ∷ []) c h = absurd (let z : ◌≡◌ {A = ℕ} 0 1 = cc in omega arith)
+split_shorter [] c h = cc
+split_shorter (tag ∷ []) c h = cc
+split_shorter (tag ∷ high ∷ []) c h = cc
 split_shorter (tag ∷ high ∷ low ∷ b) c h = go (ltb (length b) (word high low)) h
   where
     whole : Cut
     whole = record { tag = tag; contents = take (word high low) b; rest = drop (word high low) b }
 
     go : (t : Bool) → cond t (Err FieldPastInput) (Ok whole) ≡ Ok c → length c.rest < suc (suc (suc (length b)))
-    go true e = absurd (let z : ◌≡◌ {A = ℕ} 0 1 = cc in omega arith)
+    go true e = cc
     go false e = let q : whole ≡ c = cc in rw (← q) (simp length-drop (omega arith))
 
 -- Equal pairs have equal parts.
@@ -71,7 +71,7 @@ module _ {S V : Type 0} (F : Format S V) where
   -- A field is taken, and the reading goes on behind it.
   pub row_more : (b r : List ℕ) (s t : S) → field_step F s b ≡ Ok (t, r) → read_row F s b ≡ read_row F t r
   unfolding read_row read_within
-  row_more [] r s t h = absurd (let z : ◌≡◌ {A = ℕ} 0 1 = cc in omega arith)
+  row_more [] r s t h = cc
   row_more (x ∷ b) r s t h =
       let l = step_shorter (x ∷ b) r s t h in
       rw h (within_any (length b) (length r) t r (omega arith) (omega arith))
@@ -81,3 +81,7 @@ module _ {S V : Type 0} (F : Format S V) where
   unfolding read_row read_within
   row_fault [] s e l h = absurd (omega arith)
   row_fault (x ∷ b) s e l h = rw h
+
+  -- A field that was cut off and passed its tests is taken.
+  pub row_next : (b : List ℕ) (s t : S) (c : Cut) → split_field b ≡ Ok c → tested F s c ≡ Ok t → read_row F s b ≡ read_row F t c.rest
+  row_next b s t c h k = row_more b c.rest s t (rw (h, k))

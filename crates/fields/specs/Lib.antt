@@ -3,4 +3,5 @@ pub mod Fields
 pub mod Views
 pub mod Rows
 pub mod Places
+pub mod Records
 pub mod Areas

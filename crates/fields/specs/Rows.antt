@@ -1,5 +1,5 @@
 -- A row of fields: how it is read, what it means and which fault is found first.
-use Rattle.std.specs.Prelude.{◌≡◌, ℕ, zero, suc, ◌<◌, Bool, true, false, cond, ◌↔◌, List, [], ◌∷◌, ◌++◌, length, Ok, Err, Result}
+use Rattle.std.specs.Prelude.{◌≡◌, ℕ, zero, suc, ◌<◌, Bool, true, false, cond, ◌↔◌, List, [], ◌∷◌, ◌++◌, length, ⊤, Ok, Err, Result, MatchResult}
 use Rattle.std.specs.List.{AllByRecursion}
 use Rattle.fields.specs.declared.refusal.Refusal.{Refusal}
 use Rattle.fields.specs.declared.refusal.Refusal.TheVariants.{FieldPastInput, TagNotAllowed, LengthNotAllowed}
@@ -34,6 +34,10 @@ module _ {S V : Type 0} (F : Format S V) where
       cond (F.allowed s c.tag)
       (cond (F.fits c.tag (length c.contents)) (F.taken s c.tag c.contents) (Err LengthNotAllowed))
       (Err TagNotAllowed)
+
+  -- The field is taken in, after which t is known, or refused.
+  abbrev pub TakesIn : S → Cut → Result ⊤ Refusal → S → Type 0
+  TakesIn s c answer t = MatchResult answer (λ _. tested s c ≡ Ok t) (λ e. tested s c ≡ Err e)
 
   -- One field more, and the bytes behind it.
   abbrev pub field_step : S → List ℕ → Result (S × List ℕ) Refusal

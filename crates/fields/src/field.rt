@@ -17,17 +17,15 @@ pub struct Split<'a> {
 pub fn split_field(bytes: &[u8]) -> Result<Split<'_>, Refusal>
     ensures { field_split result ≡ split_field bytes.now }
 {
-    if bytes.len() < 3 {
+    let [tag, high, low, behind @ ..] = bytes else {
         return Err(Refusal::FieldPastInput);
-    }
-    let size = bytes[1] as usize * 256 + bytes[2] as usize;
-    let behind = &bytes[3..];
-    if behind.len() < size {
-        return Err(Refusal::FieldPastInput);
-    }
-    let (contents, rest) = behind.split_at(size);
+    };
+    let size = usize::from(u16::from_be_bytes([*high, *low]));
+    let (contents, rest) = behind
+        .split_at_checked(size)
+        .ok_or(Refusal::FieldPastInput)?;
     Ok(Split {
-        tag: bytes[0],
+        tag: *tag,
         contents,
         rest,
     })

@@ -3,4 +3,6 @@
 
 pub mod area;
 pub mod field;
+pub mod records;
 pub mod refusal;
+pub mod row;

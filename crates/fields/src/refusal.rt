@@ -3,52 +3,33 @@ ghost use Rattle.std.specs.Prelude.{◌≡◌};
 ghost use Rattle.fields.specs.Refusals.{refusal_number};
 
 /// Why a call was refused.
-#[derive(Clone, Copy, PartialEq, Eq, Debug)]
+#[derive(Clone, Copy, PartialEq, Eq, PartialOrd, Ord, Debug)]
 pub enum Refusal {
-    FieldPastInput,
-    TagNotAllowed,
-    LengthNotAllowed,
-    CellAddressNotAllowed,
-    KindOrRegisterNotAllowed,
-    NumberNotAllowed,
-    RuleOrProcessorAbsent,
-    FetchAtEnd,
-    BufferFull,
-    PositionOrGuessNotAllowed,
-    KindDoesNotSuitRule,
-    StepAlreadyMade,
-    OperandWanting,
-    HeldBack,
-    RunUnfinished,
-    AreaTooShort,
-    WitnessNotAccepted,
-    Absent,
+    FieldPastInput = 1,
+    TagNotAllowed = 2,
+    LengthNotAllowed = 3,
+    CellAddressNotAllowed = 4,
+    KindOrRegisterNotAllowed = 5,
+    NumberNotAllowed = 6,
+    RuleOrProcessorAbsent = 7,
+    FetchAtEnd = 8,
+    BufferFull = 9,
+    PositionOrGuessNotAllowed = 10,
+    KindDoesNotSuitRule = 11,
+    StepAlreadyMade = 12,
+    OperandWanting = 13,
+    HeldBack = 14,
+    RunUnfinished = 15,
+    AreaTooShort = 16,
+    WitnessNotAccepted = 17,
+    Absent = 18,
 }
 
-impl Refusal {
-    /// The number that stands for the refusal.
-    pub fn number(self) -> u8
-        ensures { result ≡ refusal_number self }
-    {
-        match self {
-            Refusal::FieldPastInput => 1,
-            Refusal::TagNotAllowed => 2,
-            Refusal::LengthNotAllowed => 3,
-            Refusal::CellAddressNotAllowed => 4,
-            Refusal::KindOrRegisterNotAllowed => 5,
-            Refusal::NumberNotAllowed => 6,
-            Refusal::RuleOrProcessorAbsent => 7,
-            Refusal::FetchAtEnd => 8,
-            Refusal::BufferFull => 9,
-            Refusal::PositionOrGuessNotAllowed => 10,
-            Refusal::KindDoesNotSuitRule => 11,
-            Refusal::StepAlreadyMade => 12,
-            Refusal::OperandWanting => 13,
-            Refusal::HeldBack => 14,
-            Refusal::RunUnfinished => 15,
-            Refusal::AreaTooShort => 16,
-            Refusal::WitnessNotAccepted => 17,
-            Refusal::Absent => 18,
-        }
+impl From<Refusal> for u8 {
+    // The number that stands for the refusal.
+    ghost from_gives = { λ r n. n ≡ refusal_number r };
+
+    fn from(refusal: Refusal) -> u8 {
+        refusal as u8
     }
 }

@@ -1,15 +1,12 @@
 // Single instructions that are read, and that are refused.
+use super::answers::{each_is_answered, number};
 use question::question::Question;
 
 /// The answer to a question of this instruction alone: the number of the refusal, or 0.
 fn answer(instruction: &[u8; 8]) -> u8 {
     let mut bytes = [0x50, 0, 8, 0, 0, 0, 0, 0, 0, 0, 0];
     bytes[3..11].copy_from_slice(instruction);
-    let mut question = Question::new();
-    match question.read(&bytes) {
-        Ok(()) => 0,
-        Err(refusal) => refusal.number(),
-    }
+    number(Question::new().read(&bytes))
 }
 
 /// What the instruction is, its bytes, and the number of the refusal; 0 where it is read.
@@ -59,7 +56,5 @@ const CASES: &[(&str, &[u8; 8], u8)] = &[
 
 #[test]
 fn instructions_are_answered(rt: HostRuntime) {
-    for (name, instruction, expected) in CASES {
-        assert_eq!(rt; answer(instruction), *expected, "{}", *name);
-    }
+    each_is_answered(&rt, CASES, answer);
 }

@@ -2,6 +2,8 @@
 use listing::question_listing::QuestionBytes;
 use listing::sample;
 use listing::witness_listing::WitnessBytes;
+use std::alloc::AllocError;
+use std::process::Abort;
 use std::test::Fail;
 
 /// Bytes, and the listing of the question that they are, or of their refusal.
@@ -59,20 +61,36 @@ const WITNESSES: &[(&[u8], &str)] = &[
     (b"\x45", "refused 1: a field runs past the input"),
 ];
 
-#[test]
-fn questions_are_listed(rt: HostRuntime) -> Result<(), Fail> {
-    for (bytes, expected) in QUESTIONS {
-        let text = format!(in rt.alloc(); "{}", QuestionBytes(bytes))?;
-        assert_eq!(rt; text.as_str(), *expected);
+/// Compares the listing of each case with the expected one.
+fn each_is_listed<F: Fn(&[u8]) -> Result<String, AllocError>>(
+    rt: &impl Abort,
+    cases: &[(&[u8], &str)],
+    list: F,
+) -> Result<(), Fail>
+    requires { F.IsAlwaysCallable list }
+{
+    for (bytes, expected) in cases {
+        assert_eq!(rt; list(bytes)?.as_str(), *expected);
     }
     Ok(())
 }
 
 #[test]
+fn questions_are_listed(rt: HostRuntime) -> Result<(), Fail> {
+    let heap = rt.alloc();
+    each_is_listed(
+        &rt,
+        QUESTIONS,
+        |bytes| format!(in heap; "{}", QuestionBytes(bytes)),
+    )
+}
+
+#[test]
 fn witnesses_are_listed(rt: HostRuntime) -> Result<(), Fail> {
-    for (bytes, expected) in WITNESSES {
-        let text = format!(in rt.alloc(); "{}", WitnessBytes(bytes))?;
-        assert_eq!(rt; text.as_str(), *expected);
-    }
-    Ok(())
+    let heap = rt.alloc();
+    each_is_listed(
+        &rt,
+        WITNESSES,
+        |bytes| format!(in heap; "{}", WitnessBytes(bytes)),
+    )
 }

@@ -1,4 +1,5 @@
 // Bytes that are questions, and bytes that are refused.
+use super::answers::{each_is_answered, number};
 use listing::question_listing::QuestionListing;
 use listing::sample;
 use question::question::Question;
@@ -7,11 +8,7 @@ use std::test::Fail;
 
 /// The number of the refusal; 0 where the bytes are a question.
 fn answer(bytes: &[u8]) -> u8 {
-    let mut question = Question::new();
-    match question.read(bytes) {
-        Ok(()) => 0,
-        Err(refusal) => refusal.number(),
-    }
+    number(Question::new().read(bytes))
 }
 
 /// What the bytes are, the bytes, and the number of their refusal; 0 where they are a question.
@@ -107,9 +104,7 @@ const CASES: &[(&str, &[u8], u8)] = &[
 
 #[test]
 fn questions_are_answered(rt: HostRuntime) {
-    for (name, bytes, expected) in CASES {
-        assert_eq!(rt; answer(bytes), *expected, "{}", *name);
-    }
+    each_is_answered(&rt, CASES, answer);
 }
 
 /// A field with this many copies of a record.

@@ -1,4 +1,5 @@
 // Bytes that are witnesses, bytes that are refused, and witnesses that are written.
+use super::answers::{each_is_answered, number};
 use fields::refusal::Refusal;
 use listing::sample;
 use listing::witness_listing::WitnessListing;
@@ -8,11 +9,7 @@ use witness::witness::Witness;
 
 /// The number of the refusal; 0 where the bytes are a witness.
 fn answer(bytes: &[u8]) -> u8 {
-    let mut witness = Witness::new();
-    match witness.read(bytes) {
-        Ok(()) => 0,
-        Err(refusal) => refusal.number(),
-    }
+    number(Witness::new().read(bytes))
 }
 
 /// What the bytes are, the bytes, and the number of their refusal; 0 where they are a witness.
@@ -96,9 +93,7 @@ const CASES: &[(&str, &[u8], u8)] = &[
 
 #[test]
 fn witnesses_are_answered(rt: HostRuntime) {
-    for (name, bytes, expected) in CASES {
-        assert_eq!(rt; answer(bytes), *expected, "{}", *name);
-    }
+    each_is_answered(&rt, CASES, answer);
 }
 
 #[test]

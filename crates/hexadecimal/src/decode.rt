@@ -1,53 +1,23 @@
 // Bytes from their hexadecimal digits.
 ghost use Rattle.std.specs.Prelude.{◌≡◌, IfOk, vec_items};
 ghost use Rattle.std.specs.Option.{option_map};
-ghost use Rattle.hexadecimal.specs.Hex.{digit_value, pair_value, pairs_bytes, hex_bytes};
+ghost use Rattle.hexadecimal.specs.Hex.{pairs_bytes, hex_bytes};
 
+use hex::decode_to_slice;
 use std::alloc::{AllocError, Global};
-
-/// The value of a digit, in upper or lower case.
-fn digit(byte: u8) -> Option<u8>
-    ensures { result ≡ digit_value byte }
-{
-    match byte {
-        b'0'..=b'9' => Some(byte - b'0'),
-        b'A'..=b'F' => Some(byte - b'A' + 10),
-        b'a'..=b'f' => Some(byte - b'a' + 10),
-        _ => None,
-    }
-}
-
-/// The byte that two digits state.
-fn pair(high: u8, low: u8) -> Option<u8>
-    ensures { result ≡ pair_value high low }
-{
-    match (digit(high), digit(low)) {
-        (Some(h), Some(l)) => Some(h * 16 + l),
-        _ => None,
-    }
-}
 
 /// The bytes that pairs of digits state; nothing where a digit is wrong or one is left over.
 fn pairs(heap: Global, text: &[u8]) -> Result<Option<Vec<u8>>, AllocError>
     ensures { IfOk result (λ o. option_map vec_items o ≡ pairs_bytes text.now) }
 {
-    let mut bytes = Vec::new(heap);
-    let mut rest = text;
-    while let [high, low, behind @ ..] = rest {
-        let Some(byte) = pair(*high, *low) else {
-            return Ok(None);
-        };
-        bytes.push(byte)?;
-        rest = behind;
-    }
-    if rest.is_empty() {
-        Ok(Some(bytes))
-    } else {
-        Ok(None)
+    let mut bytes = vec![in heap; 0; text.len() / 2]?;
+    match decode_to_slice(text, bytes.as_mut_slice()) {
+        Ok(()) => Ok(Some(bytes)),
+        Err(_) => Ok(None),
     }
 }
 
-/// The bytes that a text states in hexadecimal, two digits a byte; a lone `-` states no bytes.
+/// The bytes that a text states in hexadecimal, two digits a byte, upper or lower case; a lone `-` states no bytes.
 /// Nothing where a digit is wrong or one is left over.
 pub fn decode(heap: Global, text: &[u8]) -> Result<Option<Vec<u8>>, AllocError>
     ensures { IfOk result (λ o. option_map vec_items o ≡ hex_bytes text.now) }

@@ -1,2 +1,4 @@
-pub mod Refusals
+pub mod Accesses
 pub mod Instructions
+pub mod Origins
+pub mod Refusals

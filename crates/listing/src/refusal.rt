@@ -39,7 +39,7 @@ impl fmt::Display for RefusalText {
     ghost output = { λ r. Some (refusal_text r.0) };
 
     fn fmt<W: fmt::Write>(&self, f: &mut fmt::Formatter<W>) -> fmt::Result {
-        let number = self.0.number();
+        let number = u8::from(self.0);
         let cause = cause(self.0);
         write!(f, "refused {number}: {cause}")
     }

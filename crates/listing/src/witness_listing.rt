@@ -1,64 +1,26 @@
 // The listing of a witness.
+use super::access::AccessText;
+use super::origin::Origin;
 use super::refusal::RefusalText;
 use std::fmt;
-use witness::record::{Access, Source};
 use witness::witness::Witness;
 
-/// The places of a path, in the order in which they ran.
-#[derive(Clone, Copy)]
-struct Places<'a>(&'a [u8]);
-
-impl fmt::Display for Places<'_> {
-    fn fmt<W: fmt::Write>(&self, f: &mut fmt::Formatter<W>) -> fmt::Result {
-        if self.0.is_empty() {
-            return write!(f, " nothing");
-        }
-        for place in self.0 {
-            write!(f, " {place}")?;
-        }
-        Ok(())
+/// Writes items, each behind a blank; a word where there are none.
+fn write_items<W: fmt::Write, T, D: fmt::Display + Copy, F: Fn(&T) -> D>(
+    f: &mut fmt::Formatter<W>,
+    items: &[T],
+    none: &str,
+    text: F,
+) -> fmt::Result
+    requires { F.IsAlwaysCallable text }
+{
+    if items.is_empty() {
+        return write!(f, " {none}");
     }
-}
-
-/// What a load took, and from where.
-#[derive(Clone, Copy)]
-struct SourceText(Source);
-
-impl fmt::Display for SourceText {
-    fn fmt<W: fmt::Write>(&self, f: &mut fmt::Formatter<W>) -> fmt::Result {
-        let Source {
-            processor,
-            position,
-            value,
-        } = self.0;
-        if processor == 0xff && position == 0xff {
-            write!(f, "took {value} from the start")
-        } else {
-            write!(
-                f,
-                "took {value} from processor {processor} position {position}"
-            )
-        }
+    for item in items {
+        write!(f, " {}", text(item))?;
     }
-}
-
-/// Accesses in memory order, each as its processor and its position.
-#[derive(Clone, Copy)]
-struct Accesses<'a>(&'a [Access]);
-
-impl fmt::Display for Accesses<'_> {
-    fn fmt<W: fmt::Write>(&self, f: &mut fmt::Formatter<W>) -> fmt::Result {
-        if self.0.is_empty() {
-            return write!(f, " no access");
-        }
-        for Access {
-            processor,
-            position,
-        } in self.0 {
-            write!(f, " {processor}:{position}")?;
-        }
-        Ok(())
-    }
+    Ok(())
 }
 
 /// A witness: a line for each path, a line for each source, and the memory order.
@@ -69,13 +31,25 @@ impl fmt::Display for WitnessListing<'_> {
     fn fmt<W: fmt::Write>(&self, f: &mut fmt::Formatter<W>) -> fmt::Result {
         let witness = self.0;
         for processor in 0..witness.processors() {
-            let places = Places(witness.path(processor));
-            writeln!(f, "processor {processor} ran{places}")?;
+            write!(f, "processor {processor} ran")?;
+            write_items(f, witness.path(processor), "nothing", |place| *place)?;
+            writeln!(f)?;
         }
         for (load, source) in witness.sources().iter().enumerate() {
-            writeln!(f, "load {load} {}", SourceText(*source))?;
+            writeln!(
+                f,
+                "load {load} took {} {}",
+                source.value,
+                Origin::from(*source)
+            )?;
         }
-        write!(f, "memory order{}", Accesses(witness.order()))
+        f.write_str("memory order")?;
+        write_items(
+            f,
+            witness.order(),
+            "no access",
+            |access| AccessText(*access),
+        )
     }
 }
 

@@ -1,38 +1,23 @@
 // Why the program ends with status 1.
 use std::alloc::AllocError;
-use std::{fmt, io};
+use std::io;
+use thiserror::Error;
+
+/// How the program ends where some outcome is not as its line states it.
+const OTHERWISE: &str = "some test is not as stated";
 
 /// What went wrong.
-#[derive(Drop)]
+#[derive(Debug, Drop, Error)]
 pub enum Failure {
+    #[error("call it with a file of litmus tests")]
     Usage,
+    #[error("cannot read the file: {0}")]
     Unreadable(io::Error),
-    Memory,
-    Output(io::Error),
+    #[error("no memory left")]
+    Memory(#[from(alloc)] AllocError),
+    #[error("cannot write the output: {0}")]
+    Output(#[from] io::Error),
     /// Some test is malformed or not as stated.
+    #[error("{}", OTHERWISE)]
     Otherwise,
-}
-
-impl From<AllocError> for Failure {
-    fn from(_e: AllocError) -> Failure {
-        Failure::Memory
-    }
-}
-
-impl From<io::Error> for Failure {
-    fn from(e: io::Error) -> Failure {
-        Failure::Output(e)
-    }
-}
-
-impl fmt::Display for Failure {
-    fn fmt<W: fmt::Write>(&self, f: &mut fmt::Formatter<W>) -> fmt::Result {
-        match self {
-            Failure::Usage => write!(f, "call it with a file of litmus tests"),
-            Failure::Unreadable(e) => write!(f, "cannot read the file: {e}"),
-            Failure::Memory => write!(f, "no memory left"),
-            Failure::Output(e) => write!(f, "cannot write the output: {e}"),
-            Failure::Otherwise => write!(f, "some test is not as stated"),
-        }
-    }
 }

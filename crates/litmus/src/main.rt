@@ -2,30 +2,37 @@
 #![tactic(auto)]
 
 use failure::Failure;
+use std::alloc::Global;
 use std::process::ExitCode;
 use std::{env, fs};
 use tests::LitmusTest;
-use tries::{Tally, Tries, tried};
+use tries::Tally;
+use untried::Untried;
 
 mod failure;
 mod tests;
 mod tries;
+mod untried;
 
 /// Allowed or forbidden.
 fn word(accepted: u64) -> &'static str {
     if accepted > 0 { "allowed" } else { "forbidden" }
 }
 
+/// The test of a line, and what came of it.
+fn tried(heap: Global, line: &str) -> Result<(LitmusTest<'_>, Tally), Untried<'_>> {
+    let test = LitmusTest::parse(heap, line)?;
+    let tally = test.tried(heap)?;
+    Ok((test, tally))
+}
+
 /// Tries one test, prints what came of it, and answers whether it is as stated.
 fn report(rt: &HostRuntime, line: &str) -> Result<bool, Failure> {
-    let Some(test) = LitmusTest::parse(rt.alloc(), line)? else {
-        println!(rt; "malformed: {line}")?;
-        return Ok(false);
-    };
-    let Tally { tried, gam, sc } = match tried(rt.alloc(), &test.question, &test.values)? {
-        Tries::Counted(tally) => tally,
-        Tries::TooMany => {
-            println!(rt; "{}: too many witnesses to try", test.name)?;
+    let (test, Tally { tried, gam, sc }) = match tried(rt.alloc(), line) {
+        Ok(tried) => tried,
+        Err(Untried::Memory(e)) => return Err(Failure::Memory(e)),
+        Err(untried) => {
+            rt.println(untried)?;
             return Ok(false);
         }
     };
@@ -40,24 +47,16 @@ fn report(rt: &HostRuntime, line: &str) -> Result<bool, Failure> {
 }
 
 fn run(rt: &HostRuntime) -> Result<(), Failure> {
-    let words: Vec<String> = match env::args(rt) {
-        Ok(args) => args.skip(1).collect(rt.alloc())?,
-        Err(_) => return Err(Failure::Usage),
-    };
+    let args = env::args(rt).map_err(|_| Failure::Usage)?;
+    let words: Vec<String> = args.skip(1).collect(rt.alloc())?;
     let [path] = &words[..] else {
         return Err(Failure::Usage);
     };
-    let text = match fs::read_to_string(rt, path.as_str()) {
-        Ok(text) => text,
-        Err(e) => return Err(Failure::Unreadable(e)),
-    };
+    let text = fs::read_to_string(rt, path.as_str()).map_err(Failure::Unreadable)?;
     let mut tests = 0u64;
     let mut otherwise = 0u64;
-    for line in text.lines() {
-        let line = line.trim();
-        if line.is_empty() || line.starts_with('#') {
-            continue;
-        }
+    let lines = text.lines().map(|line| line.trim());
+    for line in lines.filter(|line| !line.is_empty() && !line.starts_with('#')) {
         tests = tests.saturating_add(1);
         if !report(rt, line)? {
             otherwise = otherwise.saturating_add(1);

@@ -1,7 +1,7 @@
 -- The loops that gather the results of a run, entry by entry and processor by processor.
-use Rattle.std.proofs.Common.{◌≡◌, ℕ, ◌+◌, ◌*◌, ◌<◌, ◌≤◌, Bool, true, false, cond, ◌&&◌, ltb, List, [], ◌∷◌, ◌++◌, map, length, get_or, take, drop, Some, None, Option, sym, refl, ap, ◌∙◌, arith}
-use Rattle.std.specs.List.{flat_map}
-use Rattle.std.proofs.lemmas.List.{at_drop_more, at_drop_all, drop_more, drop_all, append-nil, flat_map_more, take_more, take_all, take-map, map_push, map_more, length-append, length-take, length-map}
+use Rattle.std.proofs.Common.{◌≡◌, ℕ, ◌+◌, ◌*◌, ◌<◌, ◌≤◌, Bool, true, false, cond, ◌&&◌, ltb, List, [], ◌∷◌, suc, ◌++◌, map, length, get_or, take, Some, None, Option, sym, refl, ap, ◌∙◌, arith}
+use Rattle.std.specs.List.{flat_map, list_all, zip, range_with_len}
+use Rattle.std.proofs.lemmas.List.{append-nil, flat_map_more, take_more, take_all, take-map, map_push, map_more, length-append, length-take, length-map}
 use Rattle.std.proofs.lemmas.Bool.{lt-ltb}
 use Rattle.bounded.specs.Items.{items}
 use Rattle.bounded.specs.declared.vector.Bounded.{Bounded}
@@ -15,54 +15,30 @@ use Rattle.witness.specs.declared.record.Access.{Access}
 use Rattle.witness.specs.declared.record.Source.{Source}
 use Rattle.machine.specs.declared.processor.Processor.{Processor}
 use Rattle.machine.specs.Results.{all_done, core_finished, all_finished, source_record, entry_sources, core_sources, core_path, Closed}
-use Rattle.machine.specs.State.{Core, empty_core}
+use Rattle.machine.specs.State.{Core}
 use Rattle.machine.specs.Views.{core_of}
 
-module _ (xs : List Entry) (i : ℕ) (d : Entry) (l : i < length xs) (inv : all_done (drop i xs) ≡ all_done xs) where
-  -- An entry that is not done: not every entry is.
-  pub done_stops : (get_or xs i d).done ≡ false → false ≡ all_done xs
-  done_stops h =
-      let e : all_done (drop i xs) ≡ (get_or xs i d).done && all_done (drop (i + 1) xs) = at_drop_more all_done xs i d l in
-      sym (sym inv ∙ e ∙ rw h)
+-- Every entry is done, as one test of all.
+pub done_list : (es : List Entry) → list_all (λ (e : Entry). e.done) es ≡ all_done es
+done_list [] = refl
+done_list (e ∷ es) = ap (λ b. e.done && b) (done_list es)
 
-  -- An entry that is done: the others decide.
-  pub done_goes_on : (get_or xs i d).done ≡ true → all_done (drop (i + 1) xs) ≡ all_done xs
-  done_goes_on h =
-      let e : all_done (drop i xs) ≡ (get_or xs i d).done && all_done (drop (i + 1) xs) = at_drop_more all_done xs i d l in
-      sym (e ∙ rw h) ∙ inv
+-- A processor with its number is finished, by the code of that number.
+abbrev pub finished_at : (ℕ → List Instruction) → Processor × ℕ → Bool
+finished_at code p = core_finished (code p.1) (core_of p.0)
 
--- No entry is left: every entry is done.
-pub done_all : (xs : List Entry) (i : ℕ) → length xs ≤ i → all_done (drop i xs) ≡ all_done xs → true ≡ all_done xs
-done_all xs i l inv = sym (at_drop_all all_done xs i l) ∙ inv
-
--- Where there is no processor, every processor is finished.
-pub finished_none : (codes : List (List Instruction)) → all_finished codes [] ≡ true
-finished_none [] = refl
-finished_none (code ∷ codes) = refl
-
-module _ (codes : List (List Instruction)) (cs : List Core) (p : ℕ) (inv : all_finished (drop p codes) (drop p cs) ≡ all_finished codes cs) where
-  -- No code is left: every processor is finished.
-  pub finished_past_code : length codes ≤ p → true ≡ all_finished codes cs
-  finished_past_code l = sym (ap (λ xs. all_finished xs (drop p cs)) (drop_all p codes l)) ∙ inv
-
-  -- No processor is left: every processor is finished.
-  pub finished_past_cores : length cs ≤ p → true ≡ all_finished codes cs
-  finished_past_cores l = sym (ap (all_finished (drop p codes)) (drop_all p cs l) ∙ finished_none (drop p codes)) ∙ inv
-
-  module _ (l : p < length codes) (m : p < length cs) where
-    -- The processor at p, and the others.
-    here : all_finished (drop p codes) (drop p cs)
-        ≡ core_finished (get_or codes p []) (get_or cs p empty_core) && all_finished (drop (p + 1) codes) (drop (p + 1) cs)
-    here = ap (λ xs. all_finished xs (drop p cs)) (drop_more codes p [] l) ∙ ap (all_finished (get_or codes p [] ∷ drop (p + 1) codes)) (drop_more cs p empty_core m)
-
-    -- A processor that is not finished: not every processor is.
-    pub finished_stops : core_finished (get_or codes p []) (get_or cs p empty_core) ≡ false → false ≡ all_finished codes cs
-    finished_stops h = sym (sym inv ∙ here ∙ ap (λ b. b && all_finished (drop (p + 1) codes) (drop (p + 1) cs)) h)
-
-    -- A processor that is finished: the others decide.
-    pub finished_goes_on : core_finished (get_or codes p []) (get_or cs p empty_core) ≡ true →
-        all_finished (drop (p + 1) codes) (drop (p + 1) cs) ≡ all_finished codes cs
-    finished_goes_on h = sym (here ∙ ap (λ b. b && all_finished (drop (p + 1) codes) (drop (p + 1) cs)) h) ∙ inv
+-- Every processor is finished, as one test of all with their numbers from a on.
+pub finished_list : (code : ℕ → List Instruction) (codes : List (List Instruction)) (rows : List Processor) (a : ℕ) →
+    ((k : ℕ) → k < length codes → code (a + k) ≡ get_or codes k []) →
+    list_all (finished_at code) (zip rows (range_with_len a (length codes))) ≡ all_finished codes (map core_of rows)
+finished_list code [] [] a h = refl
+finished_list code [] (r ∷ rows) a h = refl
+finished_list code (c ∷ codes) [] a h = refl
+finished_list code (c ∷ codes) (r ∷ rows) a h =
+    let here : code a ≡ c = ap code (omega arith) ∙ h 0 (omega arith) in
+    let others : list_all (finished_at code) (zip rows (range_with_len (a + 1) (length codes))) ≡ all_finished codes (map core_of rows) =
+    finished_list code codes rows (a + 1) (λ k l. ap code (omega arith) ∙ h (suc k) (omega arith)) in
+    rw (here, others) refl
 
 -- What is made of one element more, up to a capacity.
 pub mapped_next : {X Y : Type 0} (f : X → Y) (n : ℕ) (xs : List X) (i : ℕ) (d : X) → i < length xs →

@@ -7,8 +7,7 @@ use Rattle.instructions.specs.Effects.{arithmetic_result, address_sum, data_sum,
 use Rattle.instructions.specs.Kinds.{loads, stores, access, computes, branches, fences, of_type, fence_from, fence_to, first_operand, second_operand, writes}
 use Rattle.memory.specs.Cells.{cell_at}
 use Rattle.memory.specs.declared.cell.Mark.TheVariants as mark
-use Rattle.question.specs.Litmus.{Litmus, code_at}
-use Rattle.rules.specs.Act.{instruction_at}
+use Rattle.question.specs.Litmus.{Litmus, code_at, instruction_at}
 use Rattle.rules.specs.Changes.{only, load_change}
 use Rattle.rules.specs.Entries.{at, fresh, done_with, turned, addressed, supplied}
 use Rattle.rules.specs.Tests.{same_cell}

@@ -3,3 +3,4 @@ pub mod Steps
 pub mod Results
 pub mod Views
 pub mod Fires
+pub mod Bytes

@@ -18,10 +18,7 @@ fn stays(processor: u8, keep: usize, access: Access) -> bool
 fn kept(order: Bounded<Access, 64>, processor: u8, keep: usize) -> Bounded<Access, 64>
     ensures { items result ≡ only (stays processor keep) (items order) }
 {
-    let mut rest = Bounded::new(Access {
-        processor: 0,
-        position: 0,
-    });
+    let mut rest = Bounded::new(Access::default());
     for access in order.as_slice() {
         if stays(processor, keep, *access) {
             rest.push(*access);
@@ -39,10 +36,7 @@ pub fn after_step(order: &mut Bounded<Access, 64>, access: Access, cut: Option<C
     }
     match effect {
         Effect::Local => {}
-        Effect::Loaded => {
-            order.push(access);
-        }
-        Effect::Stored { .. } => {
+        Effect::Loaded | Effect::Stored { .. } => {
             order.push(access);
         }
     }

@@ -1,9 +1,10 @@
 // Cases of the machine: what steps answer, why they are refused, and what closed runs answer.
 #![tactic(auto)]
 
+use machine::closed::ClosedRun;
 use machine::open::OpenRun;
 use machine::step::Step;
-use memory::table::Table;
+use memory::memory::Memory;
 use question::question::Question;
 
 #[cfg(test)]
@@ -11,17 +12,11 @@ mod results;
 #[cfg(test)]
 mod steps;
 
-/// Whether the steps finish a run of the question over a table.
-fn finishes(question: &Question, steps: &[[u8; 4]]) -> bool {
-    let mut run = OpenRun::start(question, Table::new());
-    for [rule, processor, position, guess] in steps {
-        let _ = run.step(Step {
-            rule: *rule,
-            processor: *processor,
-            position: *position,
-            guess: *guess,
-        });
+/// The closed run of these steps over a memory, refused ones counting as none.
+fn closed<M: Memory>(question: &Question, memory: M, steps: &[[u8; 4]]) -> ClosedRun<M> {
+    let mut run = OpenRun::start(question, memory);
+    for bytes in steps {
+        let _ = run.step(Step::from(*bytes));
     }
-    let closed = run.close();
-    closed.is_finished()
+    run.close()
 }

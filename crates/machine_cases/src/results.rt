@@ -1,9 +1,8 @@
 // What closed runs answer.
+use super::closed;
 use super::steps::STORE_LOAD;
 use fields::refusal::Refusal;
 use machine::closed::ClosedRun;
-use machine::open::OpenRun;
-use machine::step::Step;
 use memory::cell::{Cell, Mark};
 use memory::cell_list::CellList;
 use memory::memory::Memory;
@@ -31,33 +30,19 @@ const WITNESS: &[u8] =
 fn refused<T: Drop>(answer: Result<T, Refusal>) -> u8 {
     match answer {
         Ok(_) => 0,
-        Err(refusal) => refusal.number(),
+        Err(refusal) => u8::from(refusal),
     }
-}
-
-/// The closed run of these steps over a memory.
-fn closed<M: Memory>(question: &Question, memory: M, steps: &[[u8; 4]]) -> ClosedRun<M> {
-    let mut run = OpenRun::start(question, memory);
-    for [rule, processor, position, guess] in steps {
-        let _ = run.step(Step {
-            rule: *rule,
-            processor: *processor,
-            position: *position,
-            guess: *guess,
-        });
-    }
-    run.close()
 }
 
 /// Whether a value came from the store of processor 0 at position 0.
 fn from_the_store(mark: Mark) -> bool {
-    match mark {
+    matches!(
+        mark,
         Mark::Store {
-            processor,
-            position,
-        } => processor == 0 && position == 0,
-        Mark::Start => false,
-    }
+            processor: 0,
+            position: 0,
+        }
+    )
 }
 
 /// A finished run answers its register, its cells and its witness.
@@ -85,7 +70,7 @@ fn check_finished<M: Memory + Drop>(rt: &impl Abort, mut run: ClosedRun<M>) -> R
 fn a_finished_run_answers(rt: HostRuntime) -> Result<(), Fail> {
     let mut question = Question::new();
     assert!(rt; question.read(STORE_LOAD).is_ok());
-    assert!(rt; super::finishes(&question, SEVEN));
+    assert!(rt; closed(&question, Table::new(), SEVEN).is_finished());
     check_finished(&rt, closed(&question, Table::new(), SEVEN))?;
     check_finished(&rt, closed(&question, CellList::new(), SEVEN))
 }

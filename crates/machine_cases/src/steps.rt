@@ -2,7 +2,6 @@
 use fields::refusal::Refusal;
 use machine::open::OpenRun;
 use machine::step::Step;
-use memory::memory::Memory;
 use memory::table::Table;
 use question::question::Question;
 use std::process::Abort;
@@ -232,7 +231,7 @@ const CASES: &[(&str, &[u8], &[[u8; 4]], &[u8])] = &[
 fn number(answer: Result<u8, Refusal>) -> u8 {
     match answer {
         Ok(removed) => removed,
-        Err(refusal) => refusal.number().saturating_add(100),
+        Err(refusal) => u8::from(refusal).saturating_add(100),
     }
 }
 
@@ -242,13 +241,8 @@ fn compare(rt: &impl Abort, name: &str, bytes: &[u8], steps: &[[u8; 4]], wanted:
     assert!(rt; question.read(bytes).is_ok(), "{name}");
     assert_eq!(rt; steps.len(), wanted.len(), "{name}");
     let mut run = OpenRun::start(&question, Table::new());
-    for ([rule, processor, position, guess], answer) in steps.iter().zip(wanted.iter()) {
-        let got = run.step(Step {
-            rule: *rule,
-            processor: *processor,
-            position: *position,
-            guess: *guess,
-        });
+    for (bytes, answer) in steps.iter().zip(wanted) {
+        let got = run.step(Step::from(*bytes));
         assert_eq!(rt; number(got), *answer, "{name}");
     }
 }

@@ -4,8 +4,8 @@ use Rattle.std.proofs.lemmas.Bool.{both_ways, and_parts, and_cases, or_parts, lt
 use Rattle.fields.specs.declared.refusal.Refusal.TheVariants.{FetchAtEnd, BufferFull, PositionOrGuessNotAllowed}
 use Rattle.instructions.specs.declared.instruction.Instruction.{Instruction}
 use Rattle.instructions.specs.Kinds.{branches}
-use Rattle.question.specs.Litmus.{Litmus, code_at}
-use Rattle.rules.specs.Act.{fetch_fits, instruction_at}
+use Rattle.question.specs.Litmus.{Litmus, code_at, instruction_at}
+use Rattle.rules.specs.Act.{fetch_fits}
 use Rattle.rules.specs.declared.rule.Rule.{Rule}
 use Rattle.rules.specs.declared.rule.Rule.TheVariants as rule
 use Rattle.machine.specs.declared.step.Step.{Step}

@@ -2,8 +2,7 @@
 use Rattle.std.proofs.Common.{◌≡◌, ℕ, ◌<◌, true, false, length, refl, ◌∙◌}
 use Rattle.std.proofs.lemmas.Bool.{lt-ltb}
 use Rattle.instructions.specs.Kinds.{branches}
-use Rattle.question.specs.Litmus.{Litmus, code_at}
-use Rattle.rules.specs.Act.{instruction_at}
+use Rattle.question.specs.Litmus.{Litmus, code_at, instruction_at}
 use Rattle.machine.specs.State.{State, core_at}
 use Rattle.machine.specs.Steps.{with_core, core_fetched, step_outcome, fetch_outcome, went}
 use Rattle.machine.specs.Fires.{buffer, step, fetched_entry}

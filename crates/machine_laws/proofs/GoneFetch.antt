@@ -4,8 +4,8 @@ use Rattle.std.proofs.lemmas.Bool.{and_parts, or_cases, ltb-true, eqb-true}
 use Rattle.fields.specs.declared.refusal.Refusal.TheVariants.{FetchAtEnd, BufferFull, PositionOrGuessNotAllowed}
 use Rattle.instructions.specs.declared.instruction.Instruction.{Instruction}
 use Rattle.instructions.specs.Kinds.{branches}
-use Rattle.question.specs.Litmus.{Litmus, code_at}
-use Rattle.rules.specs.Act.{fetch_fits, instruction_at}
+use Rattle.question.specs.Litmus.{Litmus, code_at, instruction_at}
+use Rattle.rules.specs.Act.{fetch_fits}
 use Rattle.machine.specs.State.{State, core_at}
 use Rattle.machine.specs.Steps.{went, with_core, core_fetched, fetched, fetch_outcome}
 use Rattle.machine.specs.Fires.{buffer, Fires, step, fetched_entry}

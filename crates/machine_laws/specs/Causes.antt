@@ -9,8 +9,7 @@ use Rattle.machine.specs.Fires.{buffer, entry, instruction, Ready, OpenTo, Neare
 use Rattle.machine.specs.State.{State, core_at}
 use Rattle.machine.specs.Steps.{step_outcome, refused}
 use Rattle.machine.specs.declared.step.Step.{Step}
-use Rattle.question.specs.Litmus.{Litmus, code_at}
-use Rattle.rules.specs.Act.{instruction_at}
+use Rattle.question.specs.Litmus.{Litmus, code_at, instruction_at}
 use Rattle.rules.specs.Rules.{rule_of, suits, made}
 use Rattle.rules.specs.declared.entry.Entry.{Entry}
 use Rattle.rules.specs.declared.rule.Rule.{Rule}

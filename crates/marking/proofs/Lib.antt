@@ -1,4 +1,4 @@
-pub mod Ended
+pub mod Chunks
 pub mod RunsWithin
 pub mod MemoryStarts
 pub mod StepsBack

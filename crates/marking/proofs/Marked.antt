@@ -1,6 +1,5 @@
 -- Steps that finish and accepted witnesses earn the same mark.
-use Rattle.std.proofs.Common.{◌≡◌, ℕ, zero, suc, ◌<◌, Bool, true, false, cond, List, Some, None, Ok, Option, sym, refl, ap, ◌∙◌, arith}
-use Rattle.std.specs.Option.{option_map}
+use Rattle.std.proofs.Common.{◌≡◌, ℕ, zero, suc, ◌<◌, true, false, cond, List, Some, Ok, sym, refl, ap, ◌∙◌, arith}
 use Rattle.std.specs.List.{AllByRecursion}
 use Rattle.checker.specs.Verdict.{verdict}
 use Rattle.checker_laws.proofs.Judged.{gam_verdicts_are_the_axioms}
@@ -37,27 +36,15 @@ module _ (q : Litmus) (checked : Checked q) where
   finished_run_accepted : (sts : List Step) → (run_of q sts).finished ≡ true → by_run q (run_of q sts) ≡ accepted
   finished_run_accepted sts f = by_finished_run sts f ∙ ap by_verdict (finished_agrees q checked sts f).accepted
 
-  -- A closed run earns what its finish says.
-  by_finish : (sts : List Step) (f : Bool) → (run_of q sts).finished ≡ f → cond f accepted unfinished ≡ by_run q (run_of q sts)
-  by_finish sts true e = sym (finished_run_accepted sts e)
-  by_finish sts false e = sym (ap (λ b. cond b (by_verdict (verdict gam_keeps q (run_of q sts).execution)) unfinished) e)
-
-  -- What steps earn, by whether they finish.
-  pub earned_by_finish : (o : Option (List Step)) (f : Bool) → Some f ≡ option_map (λ sts. (run_of q sts).finished) o → cond f accepted unfinished ≡ by_steps q o
-  earned_by_finish None f e = absurd (omega (arith, never e))
-    where
-      never : Some f ≡ None → ◌≡◌ {A = ℕ} 0 1
-      never h = cc
-  earned_by_finish (Some sts) f e = by_finish sts f (inside e)
-    where
-      inside : Some f ≡ Some (run_of q sts).finished → (run_of q sts).finished ≡ f
-      inside h = cc
-
   -- Steps that finish are accepted.
-  steps_accepted : (b : List ℕ) (sts : List Step) → steps_of b ≡ Some sts → (run_of q sts).finished ≡ true → earned q (steps b) ≡ accepted
+  pub steps_accepted : (b : List ℕ) (sts : List Step) → steps_of b ≡ Some sts → (run_of q sts).finished ≡ true → earned q (steps b) ≡ accepted
   steps_accepted b sts e f = ap (by_steps q) e ∙ finished_run_accepted sts f
 
-  -- Their witness earns the same.
+  -- Steps that do not are unfinished.
+  pub steps_unfinished : (b : List ℕ) (sts : List Step) → steps_of b ≡ Some sts → (run_of q sts).finished ≡ false → earned q (steps b) ≡ unfinished
+  steps_unfinished b sts e f = ap (by_steps q) e ∙ ap (λ t. cond t (by_verdict (verdict gam_keeps q (run_of q sts).execution)) unfinished) f
+
+  -- The witness of steps that finish earns the same.
   witness_earns : (b : List ℕ) (sts : List Step) → steps_of b ≡ Some sts → (run_of q sts).finished ≡ true →
       earned q (steps b) ≡ earned q (witness (bytes_of (run_of q sts).execution))
   witness_earns b sts e f =

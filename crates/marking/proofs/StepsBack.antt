@@ -4,7 +4,8 @@ use Rattle.std.specs.Option.{option_map}
 use Rattle.machine.specs.declared.step.Step.{Step}
 use Rattle.witness.proofs.Joined.{length_joined}
 use Rattle.runs.specs.StepBytes.{steps_of}
-use Rattle.completeness.specs.StepsFor.{step_bytes, bytes_of_steps}
+use Rattle.completeness.specs.StepsFor.{bytes_of_steps}
+use Rattle.machine.specs.Bytes.{step_bytes}
 
 pub steps_back : (sts : List Step) → steps_of (bytes_of_steps sts) ≡ Some sts
 unfolding steps_of

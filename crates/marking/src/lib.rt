@@ -2,5 +2,5 @@
 #![tactic(auto)]
 
 pub mod answer;
-pub mod grade;
+pub mod fault;
 pub mod mark;

@@ -1,5 +1,5 @@
 // The exact text of checks, a case for each verdict.
-use check_listing::listing::CheckListing;
+use check_listing::verdict_listing::CheckListing;
 use ordering::gam::Gam;
 use question::question::Question;
 use std::test::Fail;

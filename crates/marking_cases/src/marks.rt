@@ -1,10 +1,9 @@
 // Rebuilds with their refusals, and a mark of each case.
 use super::checks::{FORWARDED, STALE, STORE_LOAD};
-use fields::refusal::Refusal;
 use marking::answer::Answer;
+use marking::fault::{case_number, detail_number};
 use marking::mark::mark;
 use memory::cell_list::CellList;
-use memory::memory::Memory;
 use memory::table::Table;
 use question::question::Question;
 use rebuilder::rebuild::rebuild;
@@ -24,14 +23,6 @@ const MARKS: &[(Answer<'static>, u8, u8)] = &[
     (Answer::Steps(b"\x01\x00\x00"), 4, 0),
 ];
 
-/// The number of a refusal; 0 for an answer.
-fn refused(answer: Result<usize, Refusal>) -> u8 {
-    match answer {
-        Ok(_) => 0,
-        Err(refusal) => refusal.number(),
-    }
-}
-
 #[test]
 fn marks_are_as_defined(rt: HostRuntime) {
     let mut question = Question::new();
@@ -39,10 +30,10 @@ fn marks_are_as_defined(rt: HostRuntime) {
     for (answer, case, detail) in MARKS {
         let over_table = mark(&question, Table::new(), *answer);
         let over_list = mark(&question, CellList::new(), *answer);
-        assert_eq!(rt; over_table.case(), *case);
-        assert_eq!(rt; over_table.detail(), *detail);
-        assert_eq!(rt; over_list.case(), *case);
-        assert_eq!(rt; over_list.detail(), *detail);
+        for grade in [over_table, over_list] {
+            assert_eq!(rt; case_number(grade), *case);
+            assert_eq!(rt; detail_number(grade), *detail);
+        }
     }
 }
 
@@ -57,9 +48,15 @@ fn accepted_witnesses_are_rebuilt(rt: HostRuntime) {
     assert_eq!(rt; &area[0..28], SEVEN);
     assert!(rt; area[28] == 9 && area[29] == 9);
     let mut short = [9; 27];
-    assert_eq!(rt; refused(rebuild(&question, &witness, &mut short)), 16);
+    assert_eq!(rt;
+        rebuild(&question, &witness, &mut short).map_err(u8::from),
+        Err(16)
+    );
     assert!(rt; short == [9; 27]);
     assert!(rt; witness.read(STALE).is_ok());
-    assert_eq!(rt; refused(rebuild(&question, &witness, &mut short)), 17);
+    assert_eq!(rt;
+        rebuild(&question, &witness, &mut short).map_err(u8::from),
+        Err(17)
+    );
     assert!(rt; short == [9; 27]);
 }

@@ -9,7 +9,7 @@ use bounded::vector::Bounded;
 pub mod methods;
 
 /// A cell once written, with its address.
-#[derive(Clone, Copy)]
+#[derive(Clone, Copy, Default)]
 pub struct Row {
     pub address: u16,
     pub cell: Cell,

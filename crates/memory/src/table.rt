@@ -2,7 +2,7 @@
 ghost use Rattle.std.specs.Prelude.{◌≡◌, length, replicate};
 ghost use Rattle.memory.specs.Cells.{zero_cell};
 
-use super::cell::{Cell, Mark};
+use super::cell::Cell;
 use super::memory::Memory;
 
 /// Sixteen cells, one a place.
@@ -18,10 +18,7 @@ impl Table {
         ensures { result.cells ≡ replicate 16 zero_cell }
     {
         Table {
-            cells: [Cell {
-                value: 0,
-                mark: Mark::Start,
-            }; 16],
+            cells: [Cell::default(); 16],
         }
     }
 }

@@ -5,5 +5,6 @@ pub mod constraints;
 mod dependencies;
 pub mod gam;
 mod nearest;
+pub mod pair;
 pub mod rule;
 pub mod sequential;

@@ -2,9 +2,8 @@
 ghost use Rattle.std.specs.Prelude.{◌≡◌};
 ghost use Rattle.ordering.specs.Tests.{stores_to, nearest_store, found_depends, none_after};
 
-use super::dependencies::depends;
+use super::pair::EventPair;
 use events::event::Event;
-use events::lookup::event_at;
 use search::{Matches, nearest_earlier};
 
 /// Stores to the cell of an address.
@@ -19,33 +18,30 @@ impl Matches<StoresTo> for Event {
     }
 }
 
-/// The nearest earlier store to the cell of the event at a position.
-fn nearest_store(events: &[Event], position: usize) -> Option<usize>
-    ensures { result ≡ nearest_store events.now position }
-{
-    nearest_earlier(
-        events,
-        position,
-        &StoresTo(event_at(events, position).address),
-    )
-}
-
-/// Whether the nearest earlier store to the cell of the event at `second` depends on the one at `first`.
-pub(super) fn nearest_store_depends(events: &[Event], first: usize, second: usize) -> bool
-    ensures { result ≡ found_depends events.now (nearest_store events.now second) first }
-{
-    match nearest_store(events, second) {
-        None => false,
-        Some(store) => depends(events, first, store),
+impl<'a> EventPair<'a> {
+    /// The nearest earlier store to the cell of the second event.
+    fn nearest_store(self) -> Option<usize>
+        ensures { result ≡ nearest_store self.entry.events.now self.entry.second }
+    {
+        nearest_earlier(
+            self.events,
+            self.second,
+            &StoresTo(self.second_event().address),
+        )
     }
-}
 
-/// Whether no store to the cell of the event at `second` stands between the two.
-pub(super) fn no_store_between(events: &[Event], first: usize, second: usize) -> bool
-    ensures { result ≡ none_after events.now (nearest_store events.now second) first }
-{
-    match nearest_store(events, second) {
-        None => true,
-        Some(store) => !(first < store),
+    /// Whether the nearest earlier store to the cell of the second event depends on the first.
+    pub(super) fn nearest_store_depends(self) -> bool
+        ensures { result ≡ found_depends self.entry.events.now (nearest_store self.entry.events.now self.entry.second) self.entry.first }
+    {
+        self.nearest_store()
+            .is_some_and(|second| EventPair { second, ..self }.depends())
+    }
+
+    /// Whether no store to the cell of the second event stands between the two.
+    pub(super) fn no_store_between(self) -> bool
+        ensures { result ≡ none_after self.entry.events.now (nearest_store self.entry.events.now self.entry.second) self.entry.first }
+    {
+        self.nearest_store().is_none_or(|store| store <= self.first)
     }
 }

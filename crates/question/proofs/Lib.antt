@@ -1,5 +1,3 @@
 pub mod Cells
 pub mod Codes
 pub mod Sound
-pub mod Drafts
-pub mod Fields

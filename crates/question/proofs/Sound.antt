@@ -1,30 +1,12 @@
 -- An instruction that was read is sound.
-use Rattle.std.proofs.Common.{◌≡◌, ℕ, Bool, true, false, cond, ◌&&◌, ◌||◌, eqb, ltb, leb, List, [], ◌∷◌, ◌++◌, Ok, Err, sym, refl, subst, inl, inr, arith}
-use Rattle.std.proofs.lemmas.Bool.{and_parts, and_from, cases_eq, ne_eqb}
+use Rattle.std.proofs.Common.{◌≡◌, ℕ, Bool, true, false, cond, ◌&&◌, List, [], ◌∷◌, ◌++◌, Ok, Err, sym, refl, subst, inl, inr, arith}
+use Rattle.std.proofs.lemmas.Bool.{cases_eq, ne_eqb}
+use Rattle.std.proofs.lemmas.Bool.Decides.{nat_tests}
 use Rattle.fields.specs.declared.refusal.Refusal.{Refusal}
-use Rattle.question.specs.declared.decode.Raw.{Raw}
 use Rattle.instructions.specs.declared.instruction.Instruction.{Instruction}
-use Rattle.question.specs.Instructions.{register_fits, registers_fit, numbers_fit, kind_fits, operand, instruction_from, checked}
+use Rattle.question.specs.Instructions.{Raw, registers_fit, numbers_fit, kind_fits, operand, instruction_from, checked}
 use Rattle.question.specs.Sound.{register_sound, operand_sound, instruction_sound, all_sound}
 use Rattle.question.specs.Table.{row_of}
-
-target_sound : (b : ℕ) → register_fits true false b ≡ true → register_sound b ≡ true
-target_sound b h = go (ltb b 8) h
-  where
-    go : (t : Bool) → (t || (false && eqb b 255)) ≡ true → t ≡ true
-    go true e = refl
-    go false e = e
-
-source_sound : (b : ℕ) → register_fits true true b ≡ true → operand_sound (operand b) ≡ true
-source_sound b h = go (eqb b 255) h
-  where
-    go : (t : Bool) → (ltb b 8 || (true && t)) ≡ true → operand_sound (cond t Rattle.std.specs.declared.option.Option.TheVariants.None (Rattle.std.specs.declared.option.Option.TheVariants.Some b)) ≡ true
-    go true e = refl
-    go false e = stay (ltb b 8) e
-      where
-        stay : (t : Bool) → (t || (true && false)) ≡ true → t ≡ true
-        stay true e = refl
-        stay false e = e
 
 module _ (n d s1 s2 k j : ℕ) where
   abbrev raw : ℕ → Raw
@@ -36,28 +18,16 @@ module _ (n d s1 s2 k j : ℕ) where
       registers_fit (row_of kind) (raw kind) ≡ true → numbers_fit n (row_of kind) (raw kind) ≡ true → instruction_sound n (instruction_from (raw kind)) ≡ true
 
   three_registers : registers_fit (row_of 1) (raw 1) ≡ true → (register_sound d && (operand_sound (operand s1) && operand_sound (operand s2))) ≡ true
-  three_registers h =
-      let (p, q) = and_parts (register_fits true false d) _ h in
-      let (u, v) = and_parts (register_fits true true s1) (register_fits true true s2) q in
-      and_from _ _ (target_sound d p) (and_from _ _ (source_sound s1 u) (source_sound s2 v))
+  three_registers h = grind (arith, nat_tests)
 
   load_fits : FitsSound 3
-  load_fits h m =
-      let (p, q) = and_parts (register_fits true false d) _ h in
-      let (u, v) = and_parts (register_fits true true s1) _ q in
-      and_from _ _ (target_sound d p) (source_sound s1 u)
+  load_fits h m = grind (arith, nat_tests)
 
   store_fits : FitsSound 4
-  store_fits h m =
-      let (p, q) = and_parts (register_fits false false d) _ h in
-      let (u, v) = and_parts (register_fits true true s1) (register_fits true true s2) q in
-      and_from _ _ (source_sound s1 u) (source_sound s2 v)
+  store_fits h m = grind (arith, nat_tests)
 
   branch_fits : FitsSound 5
-  branch_fits h m =
-      let (p, q) = and_parts (register_fits false false d) _ h in
-      let (u, v) = and_parts (register_fits true true s1) _ q in
-      and_from _ _ (source_sound s1 u) (and_parts (leb j n) true m).0
+  branch_fits h m = grind (arith, nat_tests)
 
   fits_sound : (kind : ℕ) → FitsSound kind
   fits_sound kind h m = elim (cases_eq kind 1) [
@@ -80,9 +50,9 @@ module _ (n d s1 s2 k j : ℕ) where
 -- An answer that passed three tests.
 passed : (t u v : Bool) (i j : Instruction) (e f g : Refusal) → cond t (cond u (cond v (Ok i) (Err e)) (Err f)) (Err g) ≡ Ok j → (u ≡ true) × (v ≡ true) × (i ≡ j)
 passed true true true i j e f g h = (refl, refl, (cc))
-passed true true false i j e f g h = absurd (let z : ◌≡◌ {A = ℕ} 0 1 = cc in omega arith)
-passed true false v i j e f g h = absurd (let z : ◌≡◌ {A = ℕ} 0 1 = cc in omega arith)
-passed false u v i j e f g h = absurd (let z : ◌≡◌ {A = ℕ} 0 1 = cc in omega arith)
+passed true true false i j e f g h = cc
+passed true false v i j e f g h = cc
+passed false u v i j e f g h = cc
 
 pub read_sound : (n : ℕ) (r : Raw) (i : Instruction) → checked n r ≡ Ok i → instruction_sound n i ≡ true
 read_sound n r i h =
@@ -90,7 +60,5 @@ read_sound n r i h =
     subst (λ (x : Instruction). instruction_sound n x ≡ true) e (fits_sound n r.d r.s1 r.s2 r.k r.j r.kind p q)
 
 pub sound_push : (n : ℕ) (is : List Instruction) (i : Instruction) → all_sound n is ≡ true → instruction_sound n i ≡ true → all_sound n (is ++ i ∷ []) ≡ true
-sound_push n [] i h s = and_from _ _ s refl
-sound_push n (x ∷ xs) i h s =
-    let (p, q) = and_parts (instruction_sound n x) (all_sound n xs) h in
-    and_from _ _ p (sound_push n xs i q s)
+sound_push n [] i h s = grind (arith, nat_tests)
+sound_push n (x ∷ xs) i h s = let t = sound_push n xs i in grind (arith, nat_tests)

@@ -7,9 +7,17 @@ use Rattle.instructions.specs.declared.instruction.AccessType.{AccessType}
 use Rattle.instructions.specs.declared.instruction.AccessType.TheVariants as access
 use Rattle.instructions.specs.declared.instruction.Instruction.{Instruction}
 use Rattle.instructions.specs.declared.instruction.Instruction.TheVariants.{Add, Subtract, Load, Store, Branch, Fence}
-use Rattle.question.specs.declared.decode.Raw.{Raw}
 use Rattle.question.specs.declared.table.Row.{Row}
 use Rattle.question.specs.Table.{row_of}
+
+-- The six fields of an instruction.
+pub record Raw : Type 0 where
+  pub kind : ℕ
+  pub d : ℕ
+  pub s1 : ℕ
+  pub s2 : ℕ
+  pub k : ℕ
+  pub j : ℕ
 
 -- Eight bytes as kind, d, s1, s2, k and j.
 abbrev pub raw_of : List ℕ → Raw

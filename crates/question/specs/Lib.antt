@@ -1,6 +1,8 @@
 pub mod Sound
 pub mod Litmus
+pub mod Kinds
 pub mod Table
+pub mod Stated
 pub mod Instructions
 pub mod Cells
 pub mod Codes

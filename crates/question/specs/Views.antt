@@ -1,6 +1,5 @@
 -- What the types of the code stand for.
-use Rattle.std.specs.Prelude.{ℕ, List, [], map, Ok, Err, Result}
-use Rattle.std.specs.Borrow.{Bor}
+use Rattle.std.specs.Prelude.{ℕ, ◌&&◌, List, [], map, length, is_none, unwrap_or, Ok, Err, Result, ◌==◌}
 use Rattle.bounded.specs.Items.{items}
 use Rattle.fields.specs.declared.refusal.Refusal.{Refusal}
 use Rattle.fields.specs.Fields.{Cut}
@@ -10,6 +9,7 @@ use Rattle.instructions.specs.declared.instruction.Instruction.{Instruction}
 use Rattle.question.specs.declared.question.Question.{Question}
 use Rattle.question.specs.declared.field.Field.{Field}
 use Rattle.question.specs.declared.field.Field.TheVariants.{Cells, Processor}
+use Rattle.question.specs.Cells.{zeros}
 use Rattle.question.specs.Litmus.{Litmus}
 use Rattle.question.specs.Read.{Draft, cell_tag, processor_tag}
 
@@ -21,9 +21,13 @@ instructions_of c = items c.instructions
 abbrev pub litmus_of : Question → Litmus
 litmus_of q = record { start = q.start; code = map instructions_of (items q.processors) }
 
--- What a draft knows of the fields so far.
+-- What a draft knows of the fields so far: there were none where it has neither start values nor a processor.
 abbrev pub draft_of : Held → Draft
-draft_of d = record { empty = d.empty; start = d.start; code = map instructions_of (items d.processors) }
+draft_of d = record {
+  empty = is_none d.start && length (items d.processors) == 0;
+  start = unwrap_or d.start zeros;
+  code = map instructions_of (items d.processors);
+}
 
 -- A cell field with these contents, and nothing behind it.
 abbrev pub cell_cut : List ℕ → Cut
@@ -38,17 +42,7 @@ abbrev pub cut_of : Field → List ℕ → Cut
 cut_of (Cells contents) rest = record { tag = cell_tag; contents = contents.now; rest = rest }
 cut_of (Processor contents) rest = record { tag = processor_tag; contents = contents.now; rest = rest }
 
--- The field reader's answer, with the bytes that it points to.
-abbrev pub field_read : Result (Field × Bor (List ℕ)) Refusal → Result Cut Refusal
-field_read (Ok p) = Ok (cut_of p.0 p.1.now)
-field_read (Err e) = Err e
-
--- The code reader's answer as instructions.
-abbrev pub code_read : Result Code Refusal → Result (List Instruction) Refusal
-code_read (Ok c) = Ok (instructions_of c)
-code_read (Err e) = Err e
-
--- The question reader's answer as a litmus test.
-abbrev pub question_read : Result Question Refusal → Result Litmus Refusal
-question_read (Ok q) = Ok (litmus_of q)
-question_read (Err e) = Err e
+-- A field that was told by its tag, with the bytes behind it.
+abbrev pub field_known : Result Field Refusal → List ℕ → Result Cut Refusal
+field_known (Ok f) rest = Ok (cut_of f rest)
+field_known (Err e) rest = Err e

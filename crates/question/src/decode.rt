@@ -1,15 +1,19 @@
 // One instruction from its eight bytes.
-ghost use Rattle.std.specs.Prelude.{◌≡◌};
+ghost use Rattle.std.specs.Prelude.{◌≡◌, Bool, cond};
+ghost use Rattle.instructions.specs.declared.instruction.AccessType.TheVariants as access;
 ghost use Rattle.question.specs.Instructions.{checked, raw_of, register_fits, registers_fit, numbers_fit, operand, instruction_from};
+ghost use Rattle.question.specs.Kinds.{kind_number};
+ghost use Rattle.question.specs.Stated.{stated};
+ghost use Rattle.question.specs.Table.{row_of};
 
-use super::table::{ROWS, Row};
+use super::table::Kind;
 use fields::refusal::Refusal;
 use instructions::instruction::{AccessType, Instruction};
 
 /// The six fields of an instruction, as its eight bytes state them.
 #[derive(Clone, Copy)]
 struct Raw {
-    kind: u8,
+    kind: Kind,
     d: u8,
     s1: u8,
     s2: u8,
@@ -17,6 +21,7 @@ struct Raw {
     j: u16,
 }
 
+/// A register where it is used, or FF where it may be absent; FF where it is not used.
 fn register_fits(used: bool, optional: bool, byte: u8) -> bool
     ensures { result ≡ register_fits used optional byte }
 {
@@ -27,81 +32,75 @@ fn register_fits(used: bool, optional: bool, byte: u8) -> bool
     }
 }
 
-fn registers_fit(row: Row, raw: Raw) -> bool
-    ensures { result ≡ registers_fit row raw }
-{
-    register_fits(row.d, false, raw.d)
-        && register_fits(row.s1, true, raw.s1)
-        && register_fits(row.s2, true, raw.s2)
-}
-
-fn numbers_fit(places: usize, row: Row, raw: Raw) -> bool
-    ensures { result ≡ numbers_fit places row raw }
-{
-    (row.k || raw.k == 0)
-        && (row.j || raw.j == 0)
-        && (raw.kind != 5 || raw.j as usize <= places)
-        && (raw.kind != 6 || raw.k < 4)
-}
-
+/// The operand that a byte states: FF is none.
 fn operand(byte: u8) -> Option<u8>
     ensures { result ≡ operand byte }
 {
-    if byte == 0xff { None } else { Some(byte) }
+    (byte != 0xff).then_some(byte)
 }
 
-fn instruction(raw: Raw) -> Instruction
-    ensures { result ≡ instruction_from raw }
+/// The type of access that a fence's number states.
+fn access_type(stores: bool) -> AccessType
+    ensures { result ≡ cond stores access.Store access.Load }
 {
-    let Raw {
-        kind,
-        d,
-        s1,
-        s2,
-        k,
-        j,
-    } = raw;
-    match kind {
-        1 => Instruction::Add {
+    if stores {
+        AccessType::Store
+    } else {
+        AccessType::Load
+    }
+}
+
+impl Raw {
+    /// Whether the register bytes are as the kind's row has them.
+    fn registers_fit(&self) -> bool
+        ensures { result ≡ registers_fit (row_of (kind_number self.now.kind)) (stated self.now) }
+    {
+        let row = self.kind.row();
+        register_fits(row.d, false, self.d)
+            && register_fits(row.s1, true, self.s1)
+            && register_fits(row.s2, true, self.s2)
+    }
+
+    /// Whether the numbers suit the kind, at a processor with this many places.
+    fn numbers_fit(&self, places: usize) -> bool
+        ensures { result ≡ numbers_fit places (row_of (kind_number self.now.kind)) (stated self.now) }
+    {
+        let row = self.kind.row();
+        let suits = match self.kind {
+            Kind::Branch => usize::from(self.j) <= places,
+            Kind::Fence => self.k < 4,
+            _ => true,
+        };
+        (row.k || self.k == 0) && (row.j || self.j == 0) && suits
+    }
+}
+
+impl From<Raw> for Instruction {
+    // The instruction of six fields.
+    ghost from_gives = { λ raw i. i ≡ instruction_from (stated raw) };
+
+    fn from(raw: Raw) -> Instruction {
+        let Raw {
+            kind,
             d,
-            s1: operand(s1),
-            s2: operand(s2),
-            k,
-        },
-        2 => Instruction::Subtract {
-            d,
-            s1: operand(s1),
-            s2: operand(s2),
-            k,
-        },
-        3 => Instruction::Load {
-            d,
-            s1: operand(s1),
-            k,
-        },
-        4 => Instruction::Store {
-            s1: operand(s1),
-            s2: operand(s2),
+            s1,
+            s2,
             k,
             j,
-        },
-        5 => Instruction::Branch {
-            s1: operand(s1),
-            k,
-            j,
-        },
-        _ => Instruction::Fence {
-            before: if k < 2 {
-                AccessType::Load
-            } else {
-                AccessType::Store
+        } = raw;
+        let s1 = operand(s1);
+        let s2 = operand(s2);
+        match kind {
+            Kind::Add => Instruction::Add { d, s1, s2, k },
+            Kind::Subtract => Instruction::Subtract { d, s1, s2, k },
+            Kind::Load => Instruction::Load { d, s1, k },
+            Kind::Store => Instruction::Store { s1, s2, k, j },
+            Kind::Branch => Instruction::Branch { s1, k, j },
+            Kind::Fence => Instruction::Fence {
+                before: access_type(k >= 2),
+                after: access_type(k % 2 != 0),
             },
-            after: if k % 2 == 0 {
-                AccessType::Load
-            } else {
-                AccessType::Store
-            },
-        },
+        }
     }
 }
 
@@ -109,23 +108,20 @@ fn instruction(raw: Raw) -> Instruction
 pub fn read_instruction(bytes: &[u8; 8], places: usize) -> Result<Instruction, Refusal>
     ensures { result ≡ checked places (raw_of bytes.now) }
 {
+    let [kind, d, s1, s2, k_high, k_low, j_high, j_low] = *bytes;
     let raw = Raw {
-        kind: bytes[0],
-        d: bytes[1],
-        s1: bytes[2],
-        s2: bytes[3],
-        k: bytes[4] as u16 * 256 + bytes[5] as u16,
-        j: bytes[6] as u16 * 256 + bytes[7] as u16,
+        kind: Kind::try_from(kind)?,
+        d,
+        s1,
+        s2,
+        k: u16::from_be_bytes([k_high, k_low]),
+        j: u16::from_be_bytes([j_high, j_low]),
     };
-    if raw.kind == 0 || raw.kind > 6 {
+    if !raw.registers_fit() {
         return Err(Refusal::KindOrRegisterNotAllowed);
     }
-    let row = ROWS[raw.kind as usize - 1];
-    if !registers_fit(row, raw) {
-        return Err(Refusal::KindOrRegisterNotAllowed);
-    }
-    if !numbers_fit(places, row, raw) {
+    if !raw.numbers_fit(places) {
         return Err(Refusal::NumberNotAllowed);
     }
-    Ok(instruction(raw))
+    Ok(Instruction::from(raw))
 }

@@ -1,14 +1,10 @@
 // A question while its fields are read.
-ghost use Rattle.std.specs.Prelude.{◌≡◌, length};
-
 use super::code::Code;
 use bounded::vector::Bounded;
 
-/// What is known of the fields so far.
+/// What is known of the fields so far: the start values once a cell field has come, and the processors.
 #[derive(Clone, Copy)]
 pub struct Draft {
-    pub(super) empty: bool,
-    pub(super) start: [u16; 16],
+    pub(super) start: Option<[u16; 16]>,
     pub(super) processors: Bounded<Code, 4>,
-    ghost sixteen: { length start ≡ 16 },
 }

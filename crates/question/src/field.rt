@@ -1,11 +1,10 @@
 // One field of a question.
 ghost use Rattle.std.specs.Prelude.{◌≡◌};
-ghost use Rattle.fields.specs.Fields.{split_field};
-ghost use Rattle.fields.specs.Rows.{then};
+ghost use Rattle.fields.specs.Views.{cut};
 ghost use Rattle.question.specs.Read.{known};
-ghost use Rattle.question.specs.Views.{field_read};
+ghost use Rattle.question.specs.Views.{field_known};
 
-use fields::field::split_field;
+use fields::field::Split;
 use fields::refusal::Refusal;
 
 /// A field of a question, by its contents.
@@ -15,14 +14,17 @@ pub enum Field<'a> {
     Processor(&'a [u8]),
 }
 
-/// The field at the front of the bytes, and the bytes behind it.
-pub fn read_field(bytes: &[u8]) -> Result<(Field<'_>, &[u8]), Refusal>
-    ensures { field_read result ≡ then (split_field bytes.now) known }
-{
-    let field = split_field(bytes)?;
-    match field.tag {
-        0x49 => Ok((Field::Cells(field.contents), field.rest)),
-        0x50 => Ok((Field::Processor(field.contents), field.rest)),
-        _ => Err(Refusal::TagNotAllowed),
+impl<'a> TryFrom<Split<'a>> for Field<'a> {
+    type Error = Refusal;
+
+    // The field by its tag; refused where a question has no such field.
+    ghost try_from_gives = { λ s r. field_known r s.rest.now ≡ known (cut s) };
+
+    fn try_from(field: Split<'a>) -> Result<Field<'a>, Refusal> {
+        match field.tag {
+            0x49 => Ok(Field::Cells(field.contents)),
+            0x50 => Ok(Field::Processor(field.contents)),
+            _ => Err(Refusal::TagNotAllowed),
+        }
     }
 }

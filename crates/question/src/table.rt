@@ -1,4 +1,49 @@
-// Which of its five fields each kind of instruction uses.
+// The kinds of instructions, and which of its five fields each uses.
+ghost use Rattle.std.specs.Prelude.{◌≡◌, ok_or};
+ghost use Rattle.fields.specs.declared.refusal.Refusal.TheVariants.{KindOrRegisterNotAllowed};
+ghost use Rattle.question.specs.Kinds.{kind_number, kind_of};
+ghost use Rattle.question.specs.Table.{row_of};
+
+use fields::refusal::Refusal;
+
+/// The six kinds.
+#[derive(Clone, Copy, PartialEq, Eq, Debug)]
+pub enum Kind {
+    Add = 1,
+    Subtract = 2,
+    Load = 3,
+    Store = 4,
+    Branch = 5,
+    Fence = 6,
+}
+
+impl TryFrom<u8> for Kind {
+    type Error = Refusal;
+
+    // The kind with this number; refused where it is not 1 to 6.
+    ghost try_from_gives = { λ n r. r ≡ ok_or (kind_of n) KindOrRegisterNotAllowed };
+
+    fn try_from(number: u8) -> Result<Kind, Refusal> {
+        match number {
+            1 => Ok(Kind::Add),
+            2 => Ok(Kind::Subtract),
+            3 => Ok(Kind::Load),
+            4 => Ok(Kind::Store),
+            5 => Ok(Kind::Branch),
+            6 => Ok(Kind::Fence),
+            _ => Err(Refusal::KindOrRegisterNotAllowed),
+        }
+    }
+}
+
+impl Kind {
+    /// The fields that this kind uses.
+    pub fn row(self) -> Row
+        ensures { result ≡ row_of (kind_number self) }
+    {
+        ROWS[self as usize - 1]
+    }
+}
 
 /// The fields that a kind uses.
 #[derive(Clone, Copy)]
@@ -10,7 +55,7 @@ pub struct Row {
     pub j: bool,
 }
 
-/// A row for each kind: 1 add, 2 subtract, 3 load, 4 store, 5 branch, 6 fence.
+/// A row for each kind.
 pub const ROWS: [Row; 6] = [
     Row {
         d: true,

@@ -1,5 +1,5 @@
 -- The answer to a step of rule 5 says which rule carries out an access.
-use Rattle.std.proofs.Common.{◌≡◌, ℕ, ◌≤◌, Bool, true, false, cond, ◌&&◌, eqb, ltb, List, length, Some, None, Err, Option, sym, refl, ap, ◌∙◌, arith, ltb-false}
+use Rattle.std.proofs.Common.{◌≡◌, ℕ, ◌≤◌, Bool, true, false, cond, ◌&&◌, eqb, ltb, List, [], ◌∷◌, length, Some, None, Err, Option, sym, refl, ap, ◌∙◌, ltb-false}
 use Rattle.std.proofs.lemmas.List.{get_or_past}
 use Rattle.fields.specs.declared.refusal.Refusal.TheVariants.{RuleOrProcessorAbsent, PositionOrGuessNotAllowed, KindDoesNotSuitRule, StepAlreadyMade}
 use Rattle.fields.specs.Rows.{then}
@@ -13,11 +13,13 @@ use Rattle.rules.specs.declared.entry.Entry.{Entry}
 use Rattle.rules.specs.declared.rule.Rule.TheVariants as rule
 use Rattle.search.specs.Search.{nearest, passes}
 use Rattle.machine.specs.Fires.{step, instruction, buffer}
+use Rattle.machine.specs.declared.step.Step.{Step}
 use Rattle.machine.specs.State.{State, core_at, empty_core}
 use Rattle.machine.specs.Steps.{Outcome, refused, went, answer, after, done, act_outcome, step_outcome}
 use Rattle.witness.specs.declared.record.Access.{Access}
-use Rattle.completeness.specs.StepsFor.{access_step}
+use Rattle.rebuilder.specs.Progress.{Progress, runs, accessed}
 use Rattle.rebuilder.specs.Views.{says_loads}
+use Rattle.rebuilder.proofs.GoesOn.{same_progress}
 
 -- A load that gets past the test of the kind says that it loads.
 module _ (s : State) (es : List Entry) (i p : ℕ) where
@@ -69,20 +71,26 @@ answer_says q s p i = go (ltb p (length s.cores)) refl
         let none : core_at s p ≡ empty_core = get_or_past s.cores p empty_core (ltb-false p (length s.cores) h) in
         sym (ap (λ c. loads (at c.entries i).instruction) none)
 
-module _ (q : Litmus) (s : State) (a : Access) where
-  -- Where it says that the entry loads, the load was the step.
-  pub carried_by_load : says_loads (answer (step_outcome q s (step 5 a.processor a.position 0))) ≡ true → step 5 a.processor a.position 0 ≡ access_step s a
-  carried_by_load h =
-      let l : loads (instruction s a.processor a.position) ≡ true = sym (answer_says q s a.processor a.position) ∙ h in
-      sym (ap (λ b. step (cond b 5 7) a.processor a.position 0) l)
+module _ (p : Progress) (a : Access) (load : Step) (is_load : load ≡ step 5 a.processor a.position 0) where
+  -- What the answer says of the entry.
+  said : (b : Bool) → says_loads (answer (step_outcome p.question p.state load)) ≡ b → loads (instruction p.state a.processor a.position) ≡ b
+  said b h = sym (answer_says p.question p.state a.processor a.position) ∙ sym (ap (λ st. says_loads (answer (step_outcome p.question p.state st))) is_load) ∙ h
 
-  -- Where it does not, the store is the step, and the load changed nothing.
-  pub carried_by_store : says_loads (answer (step_outcome q s (step 5 a.processor a.position 0))) ≡ false →
-      (step 7 a.processor a.position 0 ≡ access_step s a) × (after s (step_outcome q s (step 5 a.processor a.position 0)) ≡ s)
-  carried_by_store h =
-      let l : loads (instruction s a.processor a.position) ≡ false = sym (answer_says q s a.processor a.position) ∙ h in
-      (sym (ap (λ b. step (cond b 5 7) a.processor a.position 0) l), go (step_outcome q s (step 5 a.processor a.position 0)) h)
+  -- Where it says that the entry loads, the load carried out the access.
+  pub accessed_by_load : says_loads (answer (step_outcome p.question p.state load)) ≡ true → (u : Progress) → u ≡ runs p (load ∷ []) → u ≡ accessed p a
+  unfolding accessed
+  accessed_by_load h u is = is ∙ ap (λ st. runs p (st ∷ [])) (is_load ∙ sym (ap (λ b. step (cond b 5 7) a.processor a.position 0) (said true h)))
+
+  -- Where it does not, the load changed nothing, and the store carried it out.
+  pub accessed_by_store : says_loads (answer (step_outcome p.question p.state load)) ≡ false →
+      (m : Progress) → m.question ≡ p.question → m.steps ≡ p.steps → m.state ≡ after p.state (step_outcome p.question p.state load) →
+      (store : Step) → store ≡ step 7 a.processor a.position 0 → (u : Progress) → u ≡ runs m (store ∷ []) → u ≡ accessed p a
+  unfolding accessed
+  accessed_by_store h m question steps state store is_store u is =
+      let same : m ≡ p = same_progress question steps (state ∙ go (step_outcome p.question p.state load) h) in
+      is ∙ ap (λ v. runs v (store ∷ [])) same
+      ∙ ap (λ st. runs p (st ∷ [])) (is_store ∙ sym (ap (λ b. step (cond b 5 7) a.processor a.position 0) (said false h)))
     where
-      go : (o : Outcome) → says_loads (answer o) ≡ false → after s o ≡ s
+      go : (o : Outcome) → says_loads (answer o) ≡ false → after p.state o ≡ p.state
       go (refused e) f = refl
-      go (went n t) f = let z : ◌≡◌ {A = ℕ} 0 1 = cc in absurd (omega arith)
+      go (went n t) f = cc

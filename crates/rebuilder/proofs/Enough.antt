@@ -5,7 +5,8 @@ use Rattle.fields.specs.declared.refusal.Refusal.TheVariants.{AreaTooShort, Witn
 use Rattle.witness.proofs.Joined.{length_joined}
 use Rattle.ordering.specs.Tests.{gam_keeps}
 use Rattle.checker.specs.Verdict.{verdict}
-use Rattle.completeness.specs.StepsFor.{bytes_of_steps, step_bytes, steps_for}
+use Rattle.completeness.specs.StepsFor.{bytes_of_steps, steps_for}
+use Rattle.machine.specs.Bytes.{step_bytes}
 use Rattle.completeness.proofs.Completed.{accepted_witnesses_are_rebuilt}
 use Rattle.rebuilder.specs.Rebuild.{AreasOf1024BytesAreEnough}
 

@@ -1,48 +1,25 @@
--- Steps taken one after the other, and the fetches of evaluated rows.
-use Rattle.std.proofs.Common.{◌≡◌, ℕ, ◌<◌, ◌≤◌, ◌⊎◌, List, [], ◌∷◌, ◌++◌, length, get_or, take, sym, refl, ap, ◌∙◌, inl, inr, arith}
-use Rattle.std.specs.List.{range_with_len, flat_map}
-use Rattle.std.proofs.lemmas.List.FromFn.{get_or-map-range_with_len, length-map-range_with_len}
-use Rattle.std.proofs.lemmas.List.{get_or_past}
+-- The fetches of evaluated rows, and the steps of a witness.
+use Rattle.std.proofs.Common.{◌≡◌, ℕ, zero, suc, ◌+◌, ◌-◌, ◌<◌, ◌≤◌, ◌⊎◌, min, List, [], ◌++◌, length, get_or, take, drop, sym, ap, ◌∙◌, inl, inr, zero-add, arith}
+use Rattle.std.specs.List.{range_with_len, flat_map, zip}
+use Rattle.std.proofs.lemmas.List.FromFn.{get_or-range_with_len, get_or-map-range_with_len, length-range_with_len, length-map-range_with_len}
+use Rattle.std.proofs.lemmas.List.{get_or_past, get_or-map, length-map}
+use Rattle.std.proofs.lemmas.Slice.Zip.{length-zip, get_or-zip}
+use Rattle.bounded.specs.Items.{items}
 use Rattle.std.proofs.lemmas.Bool.{cases_lt}
 use Rattle.question.specs.Litmus.{Litmus}
 use Rattle.witness.specs.Execution.{Execution}
-use Rattle.witness.specs.declared.record.Access.{Access}
 use Rattle.events.specs.Sources.{events}
 use Rattle.events.specs.Views.{all_events, events_of}
 use Rattle.events.specs.declared.path.PathEvents.{PathEvents}
 use Rattle.checker.specs.Rows.{Evaluation}
 use Rattle.checker.proofs.Evaluations.{rows_are_paths, no_row_no_events}
-use Rattle.machine.specs.State.{State, started}
-use Rattle.machine.specs.Steps.{after, step_outcome, run_all}
-use Rattle.machine.specs.declared.step.Step.{Step}
+use Rattle.machine.specs.State.{started}
+use Rattle.machine.specs.Steps.{run_all}
 use Rattle.completeness.specs.StepsFor.{most_steps, fetches, carry_out, steps_for}
+use Rattle.rebuilder.specs.Progress.{begun, processors_of, goes_on, runs, carried}
 use Rattle.rebuilder.specs.Views.{path_fetches, row_fetches}
-use Rattle.rebuilder.proofs.Pushes.{pushed}
+use Rattle.rebuilder.proofs.Counts.{left_more, left_none}
 use Rattle.bounded.proofs.Takes.{take_append_take}
-
--- The state after two lists of steps.
-run_both : (q : Litmus) (s : State) (xs ys : List Step) → run_all q s (xs ++ ys) ≡ run_all q (run_all q s xs) ys
-unfolding run_all
-run_both q s [] ys = refl
-run_both q s (st ∷ xs) ys = run_both q (after s (step_outcome q s st)) xs ys
-
-run_one : (q : Litmus) (s : State) (st : Step) → run_all q s (st ∷ []) ≡ after s (step_outcome q s st)
-unfolding run_all
-run_one q s st = refl
-
--- No steps change nothing.
-pub run_none : (q : Litmus) (s : State) → s ≡ run_all q s []
-unfolding run_all
-run_none q s = refl
-
--- The first of the steps were taken, and the others give the rest.
-pub taking_goes_on : (q : Litmus) (s t : State) (all more front rest : List Step) → t ≡ run_all q s front → more ≡ take most_steps (all ++ front) →
-    (run_all q t rest ≡ run_all q s (front ++ rest)) × (take most_steps (more ++ rest) ≡ take most_steps (all ++ (front ++ rest)))
-taking_goes_on q s t all more front rest state push = (ap (λ u. run_all q u rest) state ∙ sym (run_both q s front rest), pushed most_steps all more front rest push)
-
--- One step was taken.
-pub taking_one : (q : Litmus) (s t : State) (st : Step) → t ≡ after s (step_outcome q s st) → t ≡ run_all q s (st ∷ [])
-taking_one q s t st e = e ∙ sym (run_one q s st)
 
 module _ (q : Litmus) (w : Execution) (rows : List PathEvents) (e : Evaluation q w rows) where
   -- The rows have the events of each processor.
@@ -56,25 +33,44 @@ module _ (q : Litmus) (w : Execution) (rows : List PathEvents) (e : Evaluation q
           ∙ no_row_no_events q w rows e p (omega (arith, rows_are_paths q w rows e))
 
   -- The fetches by rows are those of the witness.
-  pub fetches_by_rows : (n : ℕ) → n ≡ length q.code → flat_map (row_fetches rows) (range_with_len 0 n) ≡ fetches q w
-  fetches_by_rows n h =
-      ap (λ k. flat_map (row_fetches rows) (range_with_len 0 k)) h
-      ∙ (λ i. flat_map (λ p. path_fetches p (events_of_row p i)) (range_with_len 0 (length q.code)))
+  pub fetches_by_rows : flat_map (row_fetches rows) (range_with_len 0 (processors_of (begun q))) ≡ fetches q w
+  unfolding processors_of begun
+  fetches_by_rows = λ i. flat_map (λ p. path_fetches p (events_of_row p i)) (range_with_len 0 (length q.code))
+
+module _ (rows : List PathEvents) (n : ℕ) where
+  -- A row with its number comes next.
+  pub next_row : (k : ℕ) (x : ℕ × PathEvents) → (k < length (zip (range_with_len 0 n) rows)) × (x ≡ get_or (zip (range_with_len 0 n) rows) k x) →
+      flat_map (row_fetches rows) (drop k (range_with_len 0 n)) ≡ path_fetches x.0 (items x.1.events) ++ flat_map (row_fetches rows) (drop (k + 1) (range_with_len 0 n))
+  next_row k x h =
+      let few : k < n = omega (arith, h.0, length-zip (range_with_len 0 n) rows, length-range_with_len 0 n) in
+      let within : k < length rows = omega (arith, h.0, length-zip (range_with_len 0 n) rows) in
+      let is : x ≡ (get_or (range_with_len 0 n) k x.0, get_or rows k x.1) = h.1 ∙ get_or-zip (range_with_len 0 n) rows k x (omega (arith, length-range_with_len 0 n)) within in
+      let number : k ≡ x.0 = sym (ap (λ (y : ℕ × PathEvents). y.0) is ∙ get_or-range_with_len 0 n k x.0 few ∙ zero-add k) in
+      let row : get_or (events_of rows) k [] ≡ items x.1.events =
+      get_or-map (λ (y : PathEvents). items y.events) rows k x.1 [] within ∙ sym (ap (λ (y : ℕ × PathEvents). items y.1.events) is) in
+      left_more (row_fetches rows) n k few
+      ∙ (λ i. path_fetches (number i) (row i) ++ flat_map (row_fetches rows) (drop (k + 1) (range_with_len 0 n)))
+
+  -- There are no fetches past the last row.
+  none_past : (d k : ℕ) → n ≡ k + d → length rows ≤ k → flat_map (row_fetches rows) (drop k (range_with_len 0 n)) ≡ []
+  none_past zero k e l = left_none (row_fetches rows) n k (omega arith)
+  none_past (suc d) k e l =
+      left_more (row_fetches rows) n k (omega arith)
+      ∙ ap (λ es. path_fetches k es ++ flat_map (row_fetches rows) (drop (k + 1) (range_with_len 0 n)))
+      (get_or_past (events_of rows) k [] (omega (arith, length-map rows (λ (x : PathEvents). items x.events))))
+      ∙ none_past d (k + 1) (omega arith) (omega arith)
+
+  pub no_row : (k : ℕ) → k ≡ length (zip (range_with_len 0 n) rows) → flat_map (row_fetches rows) (drop k (range_with_len 0 n)) ≡ []
+  no_row k e = go (cases_lt k n)
+    where
+      short : k ≡ min n (length rows)
+      short = e ∙ length-zip (range_with_len 0 n) rows ∙ ap (λ m. min m (length rows)) (length-range_with_len 0 n)
+
+      go : (k < n) ⊎ (n ≤ k) → flat_map (row_fetches rows) (drop k (range_with_len 0 n)) ≡ []
+      go (inl l) = none_past (n - k) k (omega arith) (omega (arith, short))
+      go (inr l) = left_none (row_fetches rows) n k l
 
 -- Fetches, then accesses, are the steps of the witness.
-pub steps_are : (q : Litmus) (w : Execution) (s : State) (fetched all : List Step) → s ≡ run_all q (started q) (fetches q w) → fetched ≡ take most_steps (fetches q w) →
-    all ≡ take most_steps (fetched ++ (carry_out q w.order s).steps) → all ≡ take most_steps (steps_for q w)
-unfolding steps_for
-steps_are q w s fetched all state first then =
-    then
-    ∙ ap (λ xs. take most_steps (xs ++ (carry_out q w.order s).steps)) first
-    ∙ take_append_take most_steps (fetches q w) (carry_out q w.order s).steps
-    ∙ ap (λ t. take most_steps (fetches q w ++ (carry_out q w.order t).steps)) state
-
--- What steps lead to does not turn on how question, state and steps are written.
-pub same_run : {p q : Litmus} {s t : State} {xs ys : List Step} → p ≡ q → s ≡ t → xs ≡ ys → run_all p s xs ≡ run_all q t ys
-same_run a b c = λ i. run_all (a i) (b i) (c i)
-
-pub same_carried : {p q : Litmus} {xs ys : List Access} (all : List Step) (s : State) → p ≡ q → xs ≡ ys →
-    take most_steps (all ++ (carry_out p xs s).steps) ≡ take most_steps (all ++ (carry_out q ys s).steps)
-same_carried all s a b = λ i. take most_steps (all ++ (carry_out (a i) (b i) s).steps)
+pub steps_are : (q : Litmus) (w : Execution) → (carried (runs (begun q) (fetches q w)) w.order).steps ≡ take most_steps (steps_for q w)
+unfolding carried runs goes_on begun steps_for
+steps_are q w = take_append_take most_steps (fetches q w) (carry_out q w.order (run_all q (started q) (fetches q w))).steps

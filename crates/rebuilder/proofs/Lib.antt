@@ -1,10 +1,11 @@
 mod AccessRules
 mod Answered
-mod Carrying
 mod Counts
 mod Enough
 mod Fetching
 mod First
+mod GoesOn
 mod Processors
 mod Pushes
+mod Rules
 mod Settling

@@ -1,60 +1,54 @@
--- Local steps until none is left, one at a time.
-use Rattle.std.proofs.Common.{◌≡◌, ℕ, zero, suc, ◌≤◌, List, [], ◌∷◌, ◌++◌, length, take, Some, None, Option, sym, refl, ap, ◌∙◌, arith}
-use Rattle.question.specs.Litmus.{Litmus}
-use Rattle.machine.specs.State.{State}
-use Rattle.machine.specs.declared.step.Step.{Step}
-use Rattle.completeness.specs.StepsFor.{Taken, lowest, led_by, made_from, settle, most_steps}
-use Rattle.rebuilder.specs.Views.{step_of, state_of}
-use Rattle.rebuilder.proofs.Pushes.{pushed, pushed_all}
+-- Local steps until none is left, and accesses between.
+use Rattle.std.proofs.Common.{◌≡◌, ℕ, zero, suc, Bool, true, false, is_some, List, [], ◌∷◌, Some, None, Option, sym, refl, ap, ◌∙◌}
+use Rattle.completeness.specs.StepsFor.{Taken, made_from, settle, carry_out, access_step, most_steps}
+use Rattle.machine.specs.Steps.{after, step_outcome, run_all}
+use Rattle.witness.specs.declared.record.Access.{Access}
+use Rattle.rebuilder.specs.Progress.{Progress, TakesFirst, first_of, lowest_first, goes_on, takes, runs, settled, accessed, carried}
+use Rattle.rebuilder.proofs.GoesOn.{Few, goes_on_twice, nothing_more}
 
-module _ (q : Litmus) (s : State) where
-  -- The lowest step, then the others.
-  settle_more : (n : ℕ) (st : Step) → step_of (lowest q s) ≡ Some st → settle q (suc n) s ≡ led_by st (settle q n (state_of s (lowest q s)))
-  unfolding settle
-  settle_more n st = go (lowest q s)
+-- Local steps until none is left, n at the most.
+unfoldable pub settled_in : ℕ → Progress → Progress
+settled_in n p = goes_on p (settle p.question n p.state)
+
+pub settled_fully : (p : Progress) → settled_in most_steps p ≡ settled p
+unfolding settled_in settled
+settled_fully p = refl
+
+module _ {p u : Progress} {found : Bool} (took : TakesFirst p (lowest_first p) found u) where
+  -- The lowest step was taken, and the others are left.
+  pub settling_goes_on : (n : ℕ) → found ≡ true → settled_in n u ≡ settled_in (suc n) p
+  unfolding settled_in settle lowest_first first_of takes goes_on
+  settling_goes_on n is = go (first_of p (lowest_first p)) (sym took.if_accepted ∙ is) took.progress
     where
-      go : (o : Option Taken) → step_of o ≡ Some st → made_from s o (settle q n) ≡ led_by st (settle q n (state_of s o))
-      go None h = let z : ◌≡◌ {A = ℕ} 0 1 = cc in absurd (omega arith)
-      go (Some t) h = let e : t.step ≡ st = cc in ap (λ x. led_by x (settle q n t.state)) e
+      go : (o : Option Taken) → is_some o ≡ true → u ≡ takes p o → settled_in n u ≡ goes_on p (made_from p.state o (settle p.question n))
+      go None f e = cc
+      go (Some t) f e = ap (settled_in n) e ∙ goes_on_twice p (record { steps = t.step ∷ []; state = t.state }) (settle p.question n t.state)
 
-  -- None where there is no lowest.
-  settle_none : (n : ℕ) → step_of (lowest q s) ≡ None → (settle q (suc n) s ≡ record { steps = []; state = s }) × (state_of s (lowest q s) ≡ s)
-  unfolding settle
-  settle_none n = go (lowest q s)
+  -- There was none to take, and nothing is left.
+  pub settling_stops : Few p → (n : ℕ) → found ≡ false → u ≡ settled_in (suc n) p
+  unfolding settled_in settle lowest_first first_of takes
+  settling_stops few n is = go (first_of p (lowest_first p)) (sym took.if_accepted ∙ is) took.progress
     where
-      go : (o : Option Taken) → step_of o ≡ None → (made_from s o (settle q n) ≡ record { steps = []; state = s }) × (state_of s o ≡ s)
-      go None h = (refl, refl)
-      go (Some t) h = let z : ◌≡◌ {A = ℕ} 0 1 = cc in absurd (omega arith)
+      go : (o : Option Taken) → is_some o ≡ false → u ≡ takes p o → u ≡ goes_on p (made_from p.state o (settle p.question n))
+      go None f e = e ∙ nothing_more p few
+      go (Some t) f e = cc
 
-  settle_zero : settle q zero s ≡ record { steps = []; state = s }
-  unfolding settle
-  settle_zero = refl
+-- As many steps as there may be were taken.
+pub settling_ends : (p : Progress) → Few p → p ≡ settled_in zero p
+unfolding settled_in settle
+settling_ends p few = nothing_more p few
 
-module _ (q : Litmus) (s t : State) (all : List Step) where
-  -- A step was taken, and what is left gives the same.
-  pub settling_goes_on : (n m : ℕ) → n ≡ suc m → (found : Option Step) (st : Step) → found ≡ step_of (lowest q s) → found ≡ Some st → t ≡ state_of s (lowest q s) →
-      (more : List Step) → more ≡ take most_steps (all ++ st ∷ []) →
-      ((settle q m t).state ≡ (settle q n s).state) × (take most_steps (more ++ (settle q m t).steps) ≡ take most_steps (all ++ (settle q n s).steps))
-  settling_goes_on n m one found st value is state more push =
-      let whole : settle q n s ≡ led_by st (settle q m t) = ap (λ k. settle q k s) one ∙ settle_more q s m st (sym value ∙ is) ∙ ap (λ u. led_by st (settle q m u)) (sym state) in (
-        sym (ap (λ r. r.state) whole),
-        pushed most_steps all more (st ∷ []) (settle q m t).steps push ∙ sym (ap (λ r. take most_steps (all ++ r.steps)) whole),
-      )
+-- After the last access there are local steps.
+pub carrying_ends : (p : Progress) → settled p ≡ carried p []
+unfolding settled carried carry_out
+carrying_ends p = refl
 
-  -- There is no step to take, and nothing is left.
-  pub settling_stops : (n m : ℕ) → n ≡ suc m → (found : Option Step) → found ≡ step_of (lowest q s) → found ≡ None → t ≡ state_of s (lowest q s) → length all ≤ most_steps →
-      (t ≡ (settle q n s).state) × (all ≡ take most_steps (all ++ (settle q n s).steps))
-  settling_stops n m one found value is state few =
-      let none = settle_none q s m (sym value ∙ is) in
-      let whole : settle q n s ≡ record { steps = []; state = s } = ap (λ k. settle q k s) one ∙ none.0 in (
-        state ∙ none.1 ∙ sym (ap (λ r. r.state) whole),
-        pushed_all most_steps all few ∙ sym (ap (λ r. take most_steps (all ++ r.steps)) whole),
-      )
-
-  -- As many steps as there may be were taken.
-  pub settling_ends : (n : ℕ) → n ≡ 0 → length all ≤ most_steps → (s ≡ (settle q n s).state) × (all ≡ take most_steps (all ++ (settle q n s).steps))
-  settling_ends n spent few =
-      let whole : settle q n s ≡ record { steps = []; state = s } = ap (λ k. settle q k s) spent ∙ settle_zero q s in (
-        sym (ap (λ r. r.state) whole),
-        pushed_all most_steps all few ∙ sym (ap (λ r. take most_steps (all ++ r.steps)) whole),
-      )
+-- After local steps the first access is carried out, and the others are left.
+pub carrying_goes_on : (p : Progress) (a : Access) (order : List Access) → carried (accessed (settled p) a) order ≡ carried p (a ∷ order)
+unfolding carried accessed settled runs run_all goes_on carry_out
+carrying_goes_on p a order =
+    let before = settle p.question most_steps p.state in
+    let st = access_step before.state a in
+    let t = after before.state (step_outcome p.question before.state st) in
+    goes_on_twice (goes_on p before) (record { steps = st ∷ []; state = t }) (carry_out p.question order t)
+    ∙ goes_on_twice p before (record { steps = st ∷ (carry_out p.question order t).steps; state = (carry_out p.question order t).state })

@@ -1,25 +1,23 @@
 -- What the values of the code stand for.
-use Rattle.std.specs.Prelude.{ℕ, Bool, true, List, [], map, Some, None, Ok, Err, Option, Result, nat_lt, slice_index_or}
+use Rattle.std.specs.Prelude.{ℕ, Bool, true, List, [], map, Ok, Err, Result, nat_lt, slice_index_or}
+use Rattle.bounded.specs.Items.{items}
 use Rattle.fields.specs.Refusals.{refusal_number}
 use Rattle.fields.specs.declared.refusal.Refusal.{Refusal}
 use Rattle.fields.specs.declared.refusal.Refusal.TheVariants.{KindDoesNotSuitRule}
 use Rattle.events.specs.Views.{events_of}
 use Rattle.events.specs.declared.event.Event.{Event}
 use Rattle.events.specs.declared.path.PathEvents.{PathEvents}
+use Rattle.memory.specs.declared.table.Table.{Table}
 use Rattle.machine.specs.Fires.{step}
-use Rattle.machine.specs.State.{State}
+use Rattle.machine.specs.Views.{open_state, run_question}
 use Rattle.machine.specs.declared.step.Step.{Step}
-use Rattle.completeness.specs.StepsFor.{Taken, guess_of}
+use Rattle.completeness.specs.StepsFor.{guess_of}
+use Rattle.rebuilder.specs.Progress.{Progress}
+use Rattle.rebuilder.specs.declared.rebuilding.Rebuilding.{Rebuilding}
 
--- The step that was taken, if one was.
-abbrev pub step_of : Option Taken → Option Step
-step_of None = None
-step_of (Some t) = Some t.step
-
--- The state that it led to, or the state before where none was taken.
-abbrev pub state_of : State → Option Taken → State
-state_of s None = s
-state_of s (Some t) = t.state
+-- How far a rebuild is.
+unfoldable pub progress_of : Rebuilding → Progress
+progress_of r = record { question = run_question r.run; steps = items r.steps; state = open_state (λ (t : Table). t.cells) r.run }
 
 -- The answer to a step of rule 5 says that the entry loads: the step went, or was refused by a test after that of the kind.
 abbrev pub says_loads : Result ℕ Refusal → Bool

@@ -1,11 +1,12 @@
 -- A step of rules 2 to 8, with its tests in order; and a fetch.
-use Rattle.std.specs.Prelude.{ℕ, Bool, cond, ◌&&◌, ◌||◌, List, length, Ok, Err, Result, ◌==◌, nat_lt, slice_index_or}
+use Rattle.std.specs.Prelude.{ℕ, Bool, cond, ◌&&◌, ◌||◌, List, length, Ok, Err, Result, ◌==◌, nat_lt}
 use Rattle.fields.specs.declared.refusal.Refusal.{Refusal}
 use Rattle.fields.specs.declared.refusal.Refusal.TheVariants.{FetchAtEnd, BufferFull, PositionOrGuessNotAllowed, KindDoesNotSuitRule, StepAlreadyMade}
 use Rattle.fields.specs.Rows.{then}
 use Rattle.instructions.specs.Effects.{guessed_place}
 use Rattle.instructions.specs.Kinds.{branches}
 use Rattle.instructions.specs.declared.instruction.Instruction.{Instruction}
+use Rattle.question.specs.Litmus.{instruction_at}
 use Rattle.rules.specs.declared.change.Action.{Action}
 use Rattle.rules.specs.declared.change.Action.TheVariants.{Make}
 use Rattle.rules.specs.declared.change.Change.{Change}
@@ -13,7 +14,7 @@ use Rattle.rules.specs.declared.entry.Entry.{Entry}
 use Rattle.rules.specs.declared.rule.Rule.{Rule}
 use Rattle.rules.specs.declared.rule.Rule.TheVariants as rule
 use Rattle.rules.specs.Changes as changes
-use Rattle.rules.specs.Entries.{at, blank, fresh}
+use Rattle.rules.specs.Entries.{at, fresh}
 use Rattle.rules.specs.Rules.{suits, made}
 
 -- The change is to be made.
@@ -39,10 +40,6 @@ act r es p i guess =
     (cond (made r (at es i)) (Err StepAlreadyMade) (action r es p i))
     (Err KindDoesNotSuitRule))
     (Err PositionOrGuessNotAllowed)
-
--- The instruction at a place.
-abbrev pub instruction_at : List Instruction → ℕ → Instruction
-instruction_at code place = slice_index_or code place blank.instruction
 
 -- A fetch names position 0, and guesses 1 only at a branch.
 abbrev pub fetch_fits : Instruction → ℕ → ℕ → Bool

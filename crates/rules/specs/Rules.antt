@@ -18,6 +18,17 @@ rule_of n =
     (cond (n == 7) (Some rule.Store)
     (cond (n == 8) (Some rule.Address) None)))))))
 
+-- The number of a rule.
+abbrev pub rule_number : Rule → ℕ
+rule_number rule.Fetch = 1
+rule_number rule.Arithmetic = 2
+rule_number rule.Branch = 3
+rule_number rule.Fence = 4
+rule_number rule.Load = 5
+rule_number rule.StoreData = 6
+rule_number rule.Store = 7
+rule_number rule.Address = 8
+
 -- The kind of instruction that a rule is for; a fetch is for none, since it makes its entry.
 abbrev pub suits : Rule → Instruction → Bool
 suits rule.Fetch i = false

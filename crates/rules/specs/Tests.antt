@@ -1,13 +1,10 @@
 -- What the rules look for among older and younger entries.
-use Rattle.std.specs.Prelude.{ℕ, ◌%◌, Bool, false, not, ◌&&◌, ◌||◌, is_some, Some, None, Option, ◌==◌}
+use Rattle.std.specs.Prelude.{ℕ, Bool, false, not, ◌&&◌, ◌||◌, is_some, Some, None, Option, ◌==◌}
+use Rattle.instructions.specs.Effects.{cell_number}
 use Rattle.instructions.specs.Kinds.{loads, stores, access, branches, fence_from, fence_to}
 use Rattle.instructions.specs.declared.instruction.AccessType.TheVariants as access_type
 use Rattle.instructions.specs.declared.instruction.Instruction.{Instruction}
 use Rattle.rules.specs.declared.entry.Entry.{Entry}
-
--- The cell that an address sum means.
-abbrev pub cell_number : ℕ → ℕ
-cell_number sum = sum % 16
 
 -- The address is available and means the same cell.
 abbrev pub same_cell : ℕ → Option ℕ → Bool

@@ -1,4 +1,7 @@
 // An entry of a processor's buffer.
+ghost use Rattle.std.specs.Prelude.{◌≡◌};
+ghost use Rattle.rules.specs.Entries.{fresh};
+
 use instructions::instruction::Instruction;
 use memory::cell::Mark;
 
@@ -19,4 +22,22 @@ pub struct Entry {
     pub datum: Option<u16>,
     /// where a load's value came from
     pub mark: Mark,
+}
+
+impl Entry {
+    /// As it is fetched: nothing is known of it but its next place as guessed.
+    pub fn fetched(place: u8, instruction: Instruction, next: u16) -> Entry
+        ensures { result ≡ fresh place instruction next }
+    {
+        Entry {
+            place,
+            instruction,
+            next,
+            done: false,
+            value: 0,
+            address: None,
+            datum: None,
+            mark: Mark::Start,
+        }
+    }
 }

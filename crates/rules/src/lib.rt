@@ -6,3 +6,4 @@ pub mod change;
 pub mod entry;
 pub mod matching;
 pub mod rule;
+mod standing;

@@ -5,11 +5,8 @@ ghost use Rattle.rules.specs.Tests.{open_for_fence, open_fence_to_load, open_to_
 
 use super::entry::Entry;
 use instructions::instruction::{AccessType, Instruction};
+use instructions::register::WritesRegister;
 use search::Matches;
-
-/// Entries that write a register.
-#[derive(Clone, Copy)]
-pub struct WritesRegister(pub u8);
 
 /// Accesses that a fence puts first, not done.
 #[derive(Clone, Copy)]
@@ -35,10 +32,7 @@ pub struct ToCell(pub u16);
 fn same_cell(address: u16, other: Option<u16>) -> bool
     ensures { result ≡ same_cell address other }
 {
-    match other {
-        Some(b) => address % 16 == b % 16,
-        None => false,
-    }
+    other.is_some_and(|other| address % 16 == other % 16)
 }
 
 impl Matches<WritesRegister> for Entry {

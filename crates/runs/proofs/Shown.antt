@@ -1,6 +1,9 @@
 -- What is gathered from answers, one more at a time.
-use Rattle.std.proofs.Common.{◌≡◌, ℕ, zero, suc, ◌+◌, List, [], ◌∷◌, ◌++◌, sym, ap, ◌∙◌, append_assoc, append-nil, add-one, arith}
-use Rattle.std.specs.List.{range_with_len, flat_map}
+use Rattle.std.proofs.Common.{◌≡◌, ℕ, zero, suc, ◌+◌, List, [], ◌∷◌, ◌++◌, Result, Ok, Err, refl, sym, ap, ◌∙◌, append_assoc, append-nil, add-one, arith}
+use Rattle.std.specs.List.{range_with_len, flat_map, filter_map, cons_option}
+use Rattle.std.specs.Result.{result_ok}
+use Rattle.fields.specs.declared.refusal.Refusal.{Refusal}
+use Rattle.runs.specs.Records.{given}
 
 -- From any number on.
 more_from : {A : Type 0} (f : ℕ → List A) (a n m : ℕ) → a + n ≡ m → flat_map f (range_with_len a (suc n)) ≡ flat_map f (range_with_len a n) ++ f m
@@ -21,3 +24,12 @@ gathered_value f n xs ys x e p v = p ∙ ap (λ l. l ++ x ∷ []) e ∙ ap (λ l
 
 pub gathered_nothing : {A : Type 0} (f : ℕ → List A) (n : ℕ) (xs : List A) → xs ≡ flat_map f (range_with_len 0 n) → f n ≡ [] → xs ≡ flat_map f (range_with_len 0 (n + 1))
 gathered_nothing f n xs e v = e ∙ sym (append-nil (flat_map f (range_with_len 0 n))) ∙ ap (λ l. flat_map f (range_with_len 0 n) ++ l) (sym v) ∙ sym (gathered_more f n)
+
+-- The values that are there are the values that are given.
+pub values_given : {A : Type 0} (f : ℕ → Result A Refusal) (xs : List ℕ) → filter_map (λ k. result_ok (f k)) xs ≡ flat_map (λ k. given (f k)) xs
+values_given f [] = refl
+values_given {A} f (x ∷ xs) = go (f x) (values_given f xs)
+  where
+    go : {ys zs : List A} (r : Result A Refusal) → ys ≡ zs → cons_option (result_ok r) ys ≡ given r ++ zs
+    go (Ok y) e = ap (λ l. y ∷ l) e
+    go (Err e) p = p

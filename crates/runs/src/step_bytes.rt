@@ -10,20 +10,12 @@ use std::alloc::{AllocError, Global};
 pub fn steps_of(heap: Global, bytes: &[u8]) -> Result<Option<Vec<Step>>, AllocError>
     ensures { IfOk result (λ o. option_map vec_items o ≡ steps_of bytes.now) }
 {
+    let (chunks, []) = bytes.as_chunks::<4>() else {
+        return Ok(None);
+    };
     let mut steps = Vec::new(heap);
-    let mut rest = bytes;
-    while let [rule, processor, position, guess, behind @ ..] = rest {
-        steps.push(Step {
-            rule: *rule,
-            processor: *processor,
-            position: *position,
-            guess: *guess,
-        })?;
-        rest = behind;
+    for chunk in chunks {
+        steps.push(Step::from(*chunk))?;
     }
-    if rest.is_empty() {
-        Ok(Some(steps))
-    } else {
-        Ok(None)
-    }
+    Ok(Some(steps))
 }

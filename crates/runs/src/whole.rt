@@ -26,13 +26,9 @@ const AREA: usize = 512;
 fn registers<M: Memory>(heap: Global, run: &ClosedRun<M>) -> Result<Vec<u16>, AllocError>
     ensures { IfOk result (λ v. v.items ≡ shown_registers (closed_state M.Memory.cells run.now) 32) }
 {
-    let mut values = Vec::new(heap);
-    for index in 0..32u8 {
-        if let Ok(value) = run.register(index / 8, index % 8) {
-            values.push(value)?;
-        }
-    }
-    Ok(values)
+    (0..32u8)
+        .filter_map(|index| run.register(index / 8, index % 8).ok())
+        .collect(heap)
 }
 
 /// The cells of a finished run.
@@ -63,14 +59,13 @@ fn witness<M: Memory>(heap: Global, run: &ClosedRun<M>) -> Result<Vec<u8>, Alloc
 /// The results of a closed run, if it is finished.
 fn gathered<M: Memory + Drop>(
     heap: Global,
-    run: ClosedRun<M>,
+    mut run: ClosedRun<M>,
 ) -> Result<Option<Results>, AllocError>
     ensures { IfOk result (λ o. option_map results_of o ≡ shown (closed_state M.Memory.cells run)) }
 {
     if !run.is_finished() {
         return Ok(None);
     }
-    let mut run = run;
     let registers = registers(heap, &run)?;
     let cells = cells(heap, &mut run)?;
     let witness = witness(heap, &run)?;

@@ -17,12 +17,8 @@ pub fn nearest_earlier<K, T: Matches<K>>(items: &[T], before: usize, key: &K) ->
     ensures value { result ≡ nearest (passes (λ x. T.Matches.hits x key.now) items.now) before }
     ensures within { IfSome result (λ k. (k < before) × (k < length items.now)) }
 {
-    for k in (0..before).rev() {
-        if k < items.len() && items[k].matches(key) {
-            return Some(k);
-        }
-    }
-    None
+    let earlier = &items[..before.min(items.len())];
+    earlier.iter().rposition(|item| item.matches(key))
 }
 
 /// The least index from `from` on whose element matches.
@@ -30,12 +26,9 @@ pub fn first_later<K, T: Matches<K>>(items: &[T], from: usize, key: &K) -> Optio
     ensures value { result ≡ first (passes (λ x. T.Matches.hits x key.now) items.now) from (length items.now - from) }
     ensures within { IfSome result (λ k. k < length items.now) }
 {
-    for k in from..items.len() {
-        if items[k].matches(key) {
-            return Some(k);
-        }
-    }
-    None
+    let later = &items[from.min(items.len())..];
+    let found = later.iter().position(|item| item.matches(key))?;
+    Some(from + found)
 }
 
 /// A search finds exactly the nearest or the first, and nothing only where nothing passes.

@@ -1,59 +1,56 @@
 -- Records of a witness, read one after the other.
-use Rattle.std.proofs.Common.{◌≡◌, ℕ, ◌+◌, ◌*◌, ◌≤◌, List, [], ◌∷◌, ◌++◌, length, get_or, drop, sym, ap, ◌∙◌, arith}
-use Rattle.std.proofs.lemmas.List.{append_assoc, append-nil, drop_more, drop_all}
-use Rattle.fields.specs.Fields.{word}
-use Rattle.witness.specs.declared.record.Access.{Access}
-use Rattle.witness.specs.declared.record.Source.{Source}
-use Rattle.witness.specs.Records.{sources_from, accesses_from}
+use Rattle.std.proofs.Common.{◌≡◌, ℕ, zero, suc, ◌+◌, ◌*◌, ◌/◌, ◌%◌, ◌<◌, ◌≤◌, Bool, true, false, cond, ◌&&◌, leb, eqb, List, [], ◌∷◌, ◌++◌, map, length, get_or, take, Ok, Err, sym, refl, ap, ◌∙◌, arith}
+use Rattle.std.specs.Simd.{first_chunks}
+use Rattle.std.proofs.lemmas.List.{length-map, length-take-le, length_push, map_push, take_all, take_more}
+use Rattle.std.proofs.lemmas.Bool.{eqb-true}
+use Rattle.fields.specs.declared.refusal.Refusal.TheVariants.{LengthNotAllowed}
+use Rattle.witness.specs.Records.{source_of, access_of, sources_from, accesses_from}
 
--- The source in the four bytes at a place.
-abbrev pub source_at : List ℕ → ℕ → Source
-source_at b n = record { processor = get_or b n 0; position = get_or b (n + 1) 0; value = word (get_or b (n + 2) 0) (get_or b (n + 3) 0) }
+-- One element more of those that are mapped, where there is room for all.
+pub mapped_more : {X Y : Type 0} (f : X → Y) (n : ℕ) (xs : List X) (i : ℕ) (x : X) → i < length xs → length xs ≤ n → x ≡ get_or xs i x →
+    take n (map f (take i xs) ++ f x ∷ []) ≡ map f (take (i + 1) xs)
+mapped_more f n xs i x l h r =
+    let ys = map f (take i xs) in
+    let k : length ys ≡ i = length-map (take i xs) f ∙ length-take-le i xs (omega arith) in
+    take_all n (ys ++ f x ∷ []) (omega (arith, length_push ys (f x)))
+    ∙ sym (ap (map f) (take_more xs i x l ∙ ap (λ y. take i xs ++ y ∷ []) (sym r)) ∙ map_push f (take i xs) x)
 
--- The access in the two bytes at a place.
-abbrev pub access_at : List ℕ → ℕ → Access
-access_at b n = record { processor = get_or b n 0; position = get_or b (n + 1) 0 }
-
--- One source more.
-sources_drop : (b : List ℕ) (n : ℕ) → n + 4 ≤ length b → sources_from (drop n b) ≡ source_at b n ∷ sources_from (drop (n + 4) b)
+-- The sources of whole records are those that the chunks state.
+pub sources_chunks : (k : ℕ) (b : List ℕ) → length b ≡ 4 * k → map source_of (first_chunks 4 k b) ≡ sources_from b
 unfolding sources_from
-sources_drop b n h =
-    let e : n + 1 + 1 ≡ n + 2 = omega arith in
-    let f : n + 2 + 1 ≡ n + 3 = omega arith in
-    let g : n + 3 + 1 ≡ n + 4 = omega arith in
-    rw (drop_more b n 0 (omega arith), drop_more b (n + 1) 0 (omega arith), e, drop_more b (n + 2) 0 (omega arith), f, drop_more b (n + 3) 0 (omega arith), g)
+sources_chunks zero [] h = refl
+sources_chunks zero (p ∷ b) h = absurd (omega arith)
+sources_chunks (suc k) [] h = absurd (omega arith)
+sources_chunks (suc k) (p ∷ []) h = absurd (omega arith)
+sources_chunks (suc k) (p ∷ i ∷ []) h = absurd (omega arith)
+sources_chunks (suc k) (p ∷ i ∷ high ∷ []) h = absurd (omega arith)
+sources_chunks (suc k) (p ∷ i ∷ high ∷ low ∷ b) h = ap (◌∷◌ (source_of (p ∷ i ∷ high ∷ low ∷ []))) (sources_chunks k b (omega arith))
 
--- One access more.
-accesses_drop : (b : List ℕ) (n : ℕ) → n + 2 ≤ length b → accesses_from (drop n b) ≡ access_at b n ∷ accesses_from (drop (n + 2) b)
+-- So are the accesses.
+pub accesses_chunks : (k : ℕ) (b : List ℕ) → length b ≡ 2 * k → map access_of (first_chunks 2 k b) ≡ accesses_from b
 unfolding accesses_from
-accesses_drop b n h =
-    let e : n + 1 + 1 ≡ n + 2 = omega arith in
-    rw (drop_more b n 0 (omega arith), drop_more b (n + 1) 0 (omega arith), e)
+accesses_chunks zero [] h = refl
+accesses_chunks zero (p ∷ b) h = absurd (omega arith)
+accesses_chunks (suc k) [] h = absurd (omega arith)
+accesses_chunks (suc k) (p ∷ []) h = absurd (omega arith)
+accesses_chunks (suc k) (p ∷ i ∷ b) h = ap (◌∷◌ (access_of (p ∷ i ∷ []))) (accesses_chunks k b (omega arith))
 
--- The sources that are read and those that are left, after one was read.
-pub sources_more : (b : List ℕ) (xs : List Source) (i : ℕ) → 4 * i + 4 ≤ length b → xs ++ sources_from (drop (4 * i) b) ≡ sources_from b →
-    (xs ++ source_at b (4 * i) ∷ []) ++ sources_from (drop (4 * (i + 1)) b) ≡ sources_from b
-sources_more b xs i l h =
-    let e : 4 * i + 4 ≡ 4 * (i + 1) = omega arith in
-    append_assoc xs (source_at b (4 * i) ∷ []) (sources_from (drop (4 * (i + 1)) b))
-    ∙ ap (◌++◌ xs) (sym (sources_drop b (4 * i) l ∙ ap (λ n. source_at b (4 * i) ∷ sources_from (drop n b)) e))
-    ∙ h
+-- What is read from the contents of a field, in the words of the format.
+read_as_well : {X : Type 0} (n m k : ℕ) (xs ys : List X) → (n % k ≡ 0 → xs ≡ ys) →
+    cond (leb n m && eqb (n % k) 0) (Ok xs) (Err LengthNotAllowed) ≡ cond (leb n m && eqb (n % k) 0) (Ok ys) (Err LengthNotAllowed)
+read_as_well n m k xs ys h = go (leb n m) (eqb (n % k) 0) refl
+  where
+    go : (t u : Bool) → eqb (n % k) 0 ≡ u → cond (t && u) (Ok xs) (Err LengthNotAllowed) ≡ cond (t && u) (Ok ys) (Err LengthNotAllowed)
+    go true true e = ap Ok (h (eqb-true (n % k) 0 e))
+    go true false e = refl
+    go false u e = refl
 
--- At the end of the bytes all sources are read.
-pub sources_all : (b : List ℕ) (xs : List Source) (n : ℕ) → length b ≤ n → xs ++ sources_from (drop n b) ≡ sources_from b → xs ≡ sources_from b
-unfolding sources_from
-sources_all b xs n l h = sym (append-nil xs) ∙ ap (λ t. xs ++ sources_from t) (sym (drop_all n b l)) ∙ h
+pub sources_read : (b : List ℕ) →
+    cond (leb (length b) 256 && eqb (length b % 4) 0) (Ok (map source_of (first_chunks 4 (length b / 4) b))) (Err LengthNotAllowed)
+    ≡ cond (leb (length b) 256 && eqb (length b % 4) 0) (Ok (sources_from b)) (Err LengthNotAllowed)
+sources_read b = read_as_well (length b) 256 4 _ _ (λ e. sources_chunks (length b / 4) b (omega arith))
 
--- The accesses that are read and those that are left, after one was read.
-pub accesses_more : (b : List ℕ) (xs : List Access) (i : ℕ) → 2 * i + 2 ≤ length b → xs ++ accesses_from (drop (2 * i) b) ≡ accesses_from b →
-    (xs ++ access_at b (2 * i) ∷ []) ++ accesses_from (drop (2 * (i + 1)) b) ≡ accesses_from b
-accesses_more b xs i l h =
-    let e : 2 * i + 2 ≡ 2 * (i + 1) = omega arith in
-    append_assoc xs (access_at b (2 * i) ∷ []) (accesses_from (drop (2 * (i + 1)) b))
-    ∙ ap (◌++◌ xs) (sym (accesses_drop b (2 * i) l ∙ ap (λ n. access_at b (2 * i) ∷ accesses_from (drop n b)) e))
-    ∙ h
-
--- At the end of the bytes all accesses are read.
-pub accesses_all : (b : List ℕ) (xs : List Access) (n : ℕ) → length b ≤ n → xs ++ accesses_from (drop n b) ≡ accesses_from b → xs ≡ accesses_from b
-unfolding accesses_from
-accesses_all b xs n l h = sym (append-nil xs) ∙ ap (λ t. xs ++ accesses_from t) (sym (drop_all n b l)) ∙ h
+pub accesses_read : (b : List ℕ) →
+    cond (leb (length b) 128 && eqb (length b % 2) 0) (Ok (map access_of (first_chunks 2 (length b / 2) b))) (Err LengthNotAllowed)
+    ≡ cond (leb (length b) 128 && eqb (length b % 2) 0) (Ok (accesses_from b)) (Err LengthNotAllowed)
+accesses_read b = read_as_well (length b) 128 2 _ _ (λ e. accesses_chunks (length b / 2) b (omega arith))

@@ -1,5 +1,5 @@
 -- Records from their bytes, and their bytes from them.
-use Rattle.std.specs.Prelude.{ℕ, List, [], ◌∷◌}
+use Rattle.std.specs.Prelude.{ℕ, List, [], ◌∷◌, slice_index}
 use Rattle.fields.specs.Fields.{word, word_bytes}
 use Rattle.witness.specs.declared.record.Access.{Access}
 use Rattle.witness.specs.declared.record.Source.{Source}
@@ -11,6 +11,14 @@ source_bytes s = s.processor ∷ s.position ∷ word_bytes s.value
 -- The two bytes of an access: processor, position.
 abbrev pub access_bytes : Access → List ℕ
 access_bytes a = a.processor ∷ a.position ∷ []
+
+-- The source that four bytes state.
+abbrev pub source_of : List ℕ → Source
+source_of b = record { processor = slice_index b 0; position = slice_index b 1; value = word (slice_index b 2) (slice_index b 3) }
+
+-- The access that two bytes state.
+abbrev pub access_of : List ℕ → Access
+access_of b = record { processor = slice_index b 0; position = slice_index b 1 }
 
 -- The sources in bytes of whole records.
 unfoldable pub sources_from : List ℕ → List Source

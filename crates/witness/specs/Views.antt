@@ -1,7 +1,5 @@
 -- What the types of the code stand for.
 use Rattle.std.specs.Prelude.{ℕ, List, [], map, Ok, Err, Result}
-use Rattle.std.specs.Borrow.{Bor}
-use Rattle.bounded.specs.declared.vector.Bounded.{Bounded}
 use Rattle.bounded.specs.Items.{items}
 use Rattle.std.specs.Option.{option_map}
 use Rattle.fields.specs.declared.refusal.Refusal.{Refusal}
@@ -40,17 +38,7 @@ cut_of (Path contents) rest = record { tag = path_tag; contents = contents.now; 
 cut_of (Source contents) rest = record { tag = source_tag; contents = contents.now; rest = rest }
 cut_of (Order contents) rest = record { tag = order_tag; contents = contents.now; rest = rest }
 
--- The field reader's answer, with the bytes that it points to.
-abbrev pub field_read : Result (Field × Bor (List ℕ)) Refusal → Result Cut Refusal
-field_read (Ok p) = Ok (cut_of p.0 p.1.now)
-field_read (Err e) = Err e
-
--- The answer of a reader of contents as a list.
-abbrev pub list_read : {X : Type 0} {N : ℕ} → Result (Bounded X N) Refusal → Result (List X) Refusal
-list_read (Ok v) = Ok (items v)
-list_read (Err e) = Err e
-
--- The witness reader's answer as an execution.
-abbrev pub witness_read : Result Witness Refusal → Result Execution Refusal
-witness_read (Ok w) = Ok (execution_of w)
-witness_read (Err e) = Err e
+-- A field that was told by its tag, with the bytes behind it.
+abbrev pub field_known : Result Field Refusal → List ℕ → Result Cut Refusal
+field_known (Ok f) rest = Ok (cut_of f rest)
+field_known (Err e) rest = Err e

@@ -1,11 +1,10 @@
 // One field of a witness.
 ghost use Rattle.std.specs.Prelude.{◌≡◌};
-ghost use Rattle.fields.specs.Fields.{split_field};
-ghost use Rattle.fields.specs.Rows.{then};
+ghost use Rattle.fields.specs.Views.{cut};
 ghost use Rattle.witness.specs.Read.{known};
-ghost use Rattle.witness.specs.Views.{field_read};
+ghost use Rattle.witness.specs.Views.{field_known};
 
-use fields::field::split_field;
+use fields::field::Split;
 use fields::refusal::Refusal;
 
 /// A field of a witness, by its contents.
@@ -16,15 +15,18 @@ pub enum Field<'a> {
     Order(&'a [u8]),
 }
 
-/// The field at the front of the bytes, and the bytes behind it.
-pub fn read_field(bytes: &[u8]) -> Result<(Field<'_>, &[u8]), Refusal>
-    ensures { field_read result ≡ then (split_field bytes.now) known }
-{
-    let field = split_field(bytes)?;
-    match field.tag {
-        0x45 => Ok((Field::Path(field.contents), field.rest)),
-        0x52 => Ok((Field::Source(field.contents), field.rest)),
-        0x4d => Ok((Field::Order(field.contents), field.rest)),
-        _ => Err(Refusal::TagNotAllowed),
+impl<'a> TryFrom<Split<'a>> for Field<'a> {
+    type Error = Refusal;
+
+    // The field by its tag; refused where a witness has no such field.
+    ghost try_from_gives = { λ s r. field_known r s.rest.now ≡ known (cut s) };
+
+    fn try_from(field: Split<'a>) -> Result<Field<'a>, Refusal> {
+        match field.tag {
+            0x45 => Ok(Field::Path(field.contents)),
+            0x52 => Ok(Field::Source(field.contents)),
+            0x4d => Ok(Field::Order(field.contents)),
+            _ => Err(Refusal::TagNotAllowed),
+        }
     }
 }

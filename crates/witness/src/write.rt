@@ -1,14 +1,13 @@
 // The bytes of a witness.
-ghost use Rattle.std.specs.Prelude.{◌≡◌, ◌<◌, ◌++◌, length, take};
+ghost use Rattle.std.specs.Prelude.{◌≡◌, ◌<◌, ◌^◌, ◌++◌, length, take};
 ghost use Rattle.std.specs.List.{flat_map};
 ghost use Rattle.bounded.specs.Items.{items};
 ghost use Rattle.fields.specs.Areas.{area_answer, area_after};
 ghost use Rattle.fields.specs.Fields.{field_bytes};
 ghost use Rattle.witness.specs.Bytes.{bytes_of};
-ghost use Rattle.witness.specs.Records.{source_bytes, access_bytes};
 ghost use Rattle.witness.specs.Views.{execution_of};
 
-use super::record::{Access, Source};
+use super::record::Record;
 use super::witness::Witness;
 use bounded::vector::Bounded;
 use fields::area::put;
@@ -19,35 +18,19 @@ fn put_field(out: &mut Bounded<u8, 466>, tag: u8, contents: &[u8])
     requires { length contents.now < 65536 }
     ensures { items out.new ≡ take 466 (items out.old ++ field_bytes tag contents.now) }
 {
-    let size = contents.len();
-    out.extend(&[tag, (size / 256) as u8, (size % 256) as u8]);
+    let [high, low] = (contents.len() as u16).to_be_bytes();
+    out.extend(&[tag, high, low]);
     out.extend(contents);
 }
 
-/// The contents of a source field.
-fn source_contents(sources: &[Source]) -> Bounded<u8, 256>
-    ensures { items result ≡ take 256 (flat_map source_bytes sources.now) }
+/// The contents of a field of records.
+fn write_records<R: Record<N>, const N: usize, const M: usize>(records: &[R]) -> Bounded<u8, M>
+    requires small { N < 2 ^ 16 }
+    ensures { items result ≡ take M (flat_map R.record_bytes records.now) }
 {
     let mut out = Bounded::new(0);
-    for source in sources {
-        let value = source.value;
-        out.extend(&[
-            source.processor,
-            source.position,
-            (value / 256) as u8,
-            (value % 256) as u8,
-        ]);
-    }
-    out
-}
-
-/// The contents of an order field.
-fn order_contents(order: &[Access]) -> Bounded<u8, 128>
-    ensures { items result ≡ take 128 (flat_map access_bytes order.now) }
-{
-    let mut out = Bounded::new(0);
-    for access in order {
-        out.extend(&[access.processor, access.position]);
+    for record in records {
+        out.extend(&record.to_bytes());
     }
     out
 }
@@ -61,9 +44,9 @@ impl Witness {
         for path in self.paths.as_slice() {
             put_field(&mut out, 0x45, path.as_slice());
         }
-        let sources = source_contents(self.sources.as_slice());
+        let sources: Bounded<u8, 256> = write_records(self.sources.as_slice());
         put_field(&mut out, 0x52, sources.as_slice());
-        let order = order_contents(self.order.as_slice());
+        let order: Bounded<u8, 128> = write_records(self.order.as_slice());
         put_field(&mut out, 0x4d, order.as_slice());
         out
     }

@@ -27,11 +27,7 @@ impl<T: Copy, const N: usize> Bounded<T, N> {
     pub fn get(&self, index: usize) -> Option<T>
         ensures { result ≡ slice_get (items self.now) index }
     {
-        if index < self.len {
-            Some(self.slots[index])
-        } else {
-            None
-        }
+        self.as_slice().get(index).copied()
     }
 
     /// Replaces the element at `index`; false, and nothing changed, past the end.
@@ -64,25 +60,24 @@ impl<T: Copy, const N: usize> Bounded<T, N> {
     pub fn extend(&mut self, xs: &[T])
         ensures { items self.new ≡ take N (items self.old ++ xs.now) }
     {
-        for x in xs {
-            self.push(*x);
-        }
+        let room = xs.len().min(N - self.len);
+        let end = self.len + room;
+        let slots = &mut self.slots[..];
+        slots[self.len..end].copy_from_slice(&xs[..room]);
+        self.len = end;
     }
 
     /// Keeps the first `keep` elements.
     pub fn truncate(&mut self, keep: usize)
         ensures { items self.new ≡ take keep (items self.old) }
     {
-        if keep < self.len {
-            self.len = keep;
-        }
+        self.len = self.len.min(keep);
     }
 
     /// The elements as a slice.
     pub fn as_slice(&self) -> &[T]
         ensures { result.now ≡ items self.now }
     {
-        let all = &self.slots[..];
-        &all[0..self.len]
+        &self.slots[..self.len]
     }
 }

@@ -3,8 +3,7 @@ use super::super::failure::Failure;
 use super::super::files::ReadFiles;
 use super::super::models::Model;
 use super::Command;
-use check_listing::listing::CheckListing;
-use listing::refusal::RefusalText;
+use check_listing::verdict_listing::CheckListing;
 use ordering::gam::Gam;
 use ordering::sequential::Sequential;
 use question::question::Question;
@@ -42,18 +41,7 @@ fn print_check<'x>(
 
 impl Command for Check<'_> {
     fn run(&self, rt: &HostRuntime) -> Result<(), Failure> {
-        let question_bytes = rt.read_bytes(self.question)?;
-        let witness_bytes = rt.read_bytes(self.witness)?;
-        let mut question = Question::new();
-        if let Err(refusal) = question.read(&question_bytes) {
-            println!(rt; "question {}", RefusalText(refusal))?;
-            return Ok(());
-        }
-        let mut witness = Witness::new();
-        if let Err(refusal) = witness.read(&witness_bytes) {
-            println!(rt; "witness {}", RefusalText(refusal))?;
-            return Ok(());
-        }
+        let (question, witness) = rt.read_pair(self.question, self.witness)?;
         print_check(rt, self.model, &question, &witness)
     }
 }

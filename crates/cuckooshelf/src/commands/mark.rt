@@ -1,23 +1,31 @@
 // The command `mark`.
 use super::super::failure::Failure;
 use super::super::files::ReadFiles;
-use super::super::grade_text::GradeText;
+use super::super::mark_text::MarkText;
 use super::super::memories::MemoryKind;
+use super::super::reading::read_question;
+use super::super::words::Unknown;
 use super::Command;
-use listing::refusal::RefusalText;
 use marking::answer::Answer;
-use marking::grade::Grade;
-use marking::mark::mark;
-use memory::cell_list::CellList;
-use memory::memory::Memory;
-use memory::table::Table;
-use question::question::Question;
+use std::str::FromStr;
 
 /// The two kinds of answer.
 #[derive(Clone, Copy)]
 pub enum AnswerKind {
     Steps,
     Witness,
+}
+
+impl FromStr for AnswerKind {
+    type Err = Unknown;
+
+    fn from_str(word: &str) -> Result<AnswerKind, Unknown> {
+        match word {
+            "steps" => Ok(AnswerKind::Steps),
+            "witness" => Ok(AnswerKind::Witness),
+            _ => Err(Unknown),
+        }
+    }
 }
 
 /// Marks the answer in a file to the question in another.
@@ -29,28 +37,16 @@ pub struct MarkAnswer<'a> {
     pub memory: MemoryKind,
 }
 
-/// Marks an answer over a memory, by its name.
-fn mark_over(question: &Question, memory: MemoryKind, answer: Answer<'_>) -> Grade {
-    match memory {
-        MemoryKind::Table => mark(question, Table::new(), answer),
-        MemoryKind::List => mark(question, CellList::new(), answer),
-    }
-}
-
 impl Command for MarkAnswer<'_> {
     fn run(&self, rt: &HostRuntime) -> Result<(), Failure> {
         let question_bytes = rt.read_bytes(self.question)?;
         let bytes = rt.read_bytes(self.answer)?;
-        let mut question = Question::new();
-        if let Err(refusal) = question.read(&question_bytes) {
-            println!(rt; "question {}", RefusalText(refusal))?;
-            return Ok(());
-        }
+        let question = read_question(&question_bytes)?;
         let answer = match self.kind {
             AnswerKind::Steps => Answer::Steps(&bytes),
             AnswerKind::Witness => Answer::Witness(&bytes),
         };
-        rt.println(GradeText(mark_over(&question, self.memory, answer)))?;
+        rt.println(MarkText(self.memory.mark(&question, answer)))?;
         Ok(())
     }
 }

@@ -19,8 +19,7 @@ pub struct Rebuild<'a> {
 fn print_steps(rt: &HostRuntime, question: &Question, witness: &Witness) -> Result<(), Failure> {
     let mut area = [0; 1024];
     match rebuild(question, witness, &mut area) {
-        Ok(length) if length <= area.len() => rt.println(StepLines(&area[0..length]))?,
-        Ok(_) => {}
+        Ok(length) => rt.println(StepLines(&area[..length]))?,
         Err(refusal) => rt.println(RefusalText(refusal))?,
     }
     Ok(())
@@ -28,18 +27,7 @@ fn print_steps(rt: &HostRuntime, question: &Question, witness: &Witness) -> Resu
 
 impl Command for Rebuild<'_> {
     fn run(&self, rt: &HostRuntime) -> Result<(), Failure> {
-        let question_bytes = rt.read_bytes(self.question)?;
-        let witness_bytes = rt.read_bytes(self.witness)?;
-        let mut question = Question::new();
-        if let Err(refusal) = question.read(&question_bytes) {
-            println!(rt; "question {}", RefusalText(refusal))?;
-            return Ok(());
-        }
-        let mut witness = Witness::new();
-        if let Err(refusal) = witness.read(&witness_bytes) {
-            println!(rt; "witness {}", RefusalText(refusal))?;
-            return Ok(());
-        }
+        let (question, witness) = rt.read_pair(self.question, self.witness)?;
         print_steps(rt, &question, &witness)
     }
 }

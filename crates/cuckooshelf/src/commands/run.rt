@@ -1,10 +1,10 @@
 // The command `run`.
 use super::super::failure::Failure;
 use super::super::files::ReadFiles;
-use super::super::memories::{MemoryKind, RunsSteps};
+use super::super::memories::MemoryKind;
+use super::super::reading::Refused;
 use super::super::run_texts::run_listing::RunListing;
 use super::Command;
-use listing::refusal::RefusalText;
 use question::question::Question;
 use runs::step_bytes::steps_of;
 
@@ -24,10 +24,7 @@ impl Command for Run<'_> {
             return Err(Failure::PartOfStep(String::from_str(rt.alloc(), self.steps)?));
         };
         let mut question = Question::new();
-        if let Err(refusal) = question.read(&bytes) {
-            rt.println(RefusalText(refusal))?;
-            return Ok(());
-        }
+        question.read(&bytes).map_err(Refused::Run)?;
         let record = self.memory.run_steps(rt.alloc(), &question, &steps)?;
         rt.println(RunListing {
             steps: &steps,

@@ -1,7 +1,9 @@
 // Cases of the form `check gam|sc Q WITNESS => verdict N | refused N`.
-use super::super::models::{Model, Named};
+use super::super::models::Model;
 use super::Form;
-use super::pair::{Pair, PairText, StatesPair};
+use super::pair::pair;
+use super::refused::refused;
+use checker::axiom::verdict_number;
 use checker::check::check;
 use ordering::gam::Gam;
 use ordering::sequential::Sequential;
@@ -12,20 +14,20 @@ pub enum CheckForm {}
 
 /// The answer under a model.
 fn verdict(heap: Global, model: Model, operands: &str) -> Result<Option<String>, AllocError> {
-    let Some(pair) = PairText(operands).pair(heap)? else {
+    let Some(pair) = pair(heap, operands)? else {
         return Ok(None);
     };
-    let (question, witness) = match pair {
-        Pair::Refused(refusal) => {
-            return Ok(Some(format!(in heap; "refused {}", refusal.number())?));
+    let answer = match pair {
+        Ok((question, witness)) => {
+            let verdict = match model {
+                Model::Gam => check(&Gam, &question, &witness),
+                Model::Sc => check(&Sequential, &question, &witness),
+            };
+            format!(in heap; "verdict {}", verdict_number(verdict))?
         }
-        Pair::Read { question, witness } => (question, witness),
+        Err(pair) => refused(heap, pair.refusal())?,
     };
-    let verdict = match model {
-        Model::Gam => check(&Gam, &question, &witness),
-        Model::Sc => check(&Sequential, &question, &witness),
-    };
-    Ok(Some(format!(in heap; "verdict {}", verdict.number())?))
+    Ok(Some(answer))
 }
 
 impl Form for CheckForm {
@@ -33,9 +35,9 @@ impl Form for CheckForm {
         let Some((word, rest)) = operands.split_once(' ') else {
             return Ok(None);
         };
-        match Model::named(word) {
-            None => Ok(None),
-            Some(model) => verdict(heap, model, rest),
+        match word.parse::<Model>() {
+            Ok(model) => verdict(heap, model, rest),
+            Err(_) => Ok(None),
         }
     }
 }

@@ -3,6 +3,7 @@ ghost use Rattle.std.specs.Prelude.{◌≡◌};
 ghost use Rattle.cuckooshelf.specs.Answers.{question_answer};
 
 use super::Form;
+use super::refused::refused;
 use hexadecimal::decode::decode;
 use question::question::Question;
 use std::alloc::{AllocError, Global};
@@ -20,7 +21,7 @@ impl Form for QuestionForm {
         let mut question = Question::new();
         let answer = match question.read(&bytes) {
             Ok(()) => String::from_str(heap, "ok")?,
-            Err(refusal) => format!(in heap; "refused {}", refusal.number())?,
+            Err(refusal) => refused(heap, refusal)?,
         };
         Ok(Some(answer))
     }

@@ -1,7 +1,8 @@
 // Cases of the form `run Q STEPS => ANSWERS END`.
-use super::super::memories::{MemoryKind, RunsSteps};
+use super::super::memories::MemoryKind;
 use super::super::run_texts::answer::RunWords;
 use super::Form;
+use super::refused::refused;
 use hexadecimal::decode::decode;
 use machine::step::Step;
 use question::question::Question;
@@ -34,20 +35,20 @@ fn over_both(heap: Global, question: &Question, steps: &[Step]) -> Result<String
 
 /// The question and the steps that two operands state; nothing where one is malformed.
 fn answer_to(heap: Global, question: &str, steps: &str) -> Result<Option<String>, AllocError> {
-    let Some(question_bytes) = decode(heap, question.as_bytes())? else {
-        return Ok(None);
-    };
-    let Some(step_bytes) = decode(heap, steps.as_bytes())? else {
+    let question = decode(heap, question.as_bytes())?;
+    let steps = decode(heap, steps.as_bytes())?;
+    let (Some(question_bytes), Some(step_bytes)) = (question, steps) else {
         return Ok(None);
     };
     let Some(steps) = steps_of(heap, &step_bytes)? else {
         return Ok(None);
     };
     let mut question = Question::new();
-    if let Err(refusal) = question.read(&question_bytes) {
-        return Ok(Some(format!(in heap; "refused {}", refusal.number())?));
-    }
-    Ok(Some(over_both(heap, &question, &steps)?))
+    let answer = match question.read(&question_bytes) {
+        Ok(()) => over_both(heap, &question, &steps)?,
+        Err(refusal) => refused(heap, refusal)?,
+    };
+    Ok(Some(answer))
 }
 
 impl Form for RunForm {

@@ -5,7 +5,37 @@ use memory::cell::{Cell, Mark};
 use runs::record::{Record, Results};
 use std::fmt;
 
-/// The number of entries that each step removed, or the number of its refusal, by commas; `-` for no steps.
+/// Writes items by commas.
+fn write_items<W: fmt::Write, T, D: fmt::Display + Copy, F: Fn(&T) -> D>(
+    f: &mut fmt::Formatter<W>,
+    items: &[T],
+    text: F,
+) -> fmt::Result
+    requires { F.IsAlwaysCallable text }
+{
+    for (index, item) in items.iter().enumerate() {
+        if index > 0 {
+            f.write_str(",")?;
+        }
+        write!(f, "{}", text(item))?;
+    }
+    Ok(())
+}
+
+/// The number of entries that a step removed, or the number of its refusal.
+#[derive(Clone, Copy)]
+struct AnswerWord(Result<u8, Refusal>);
+
+impl fmt::Display for AnswerWord {
+    fn fmt<W: fmt::Write>(&self, f: &mut fmt::Formatter<W>) -> fmt::Result {
+        match self.0 {
+            Ok(removed) => write!(f, "{removed}"),
+            Err(refusal) => write!(f, "r{}", u8::from(refusal)),
+        }
+    }
+}
+
+/// The answers to steps by commas; `-` for no steps.
 #[derive(Clone, Copy)]
 struct AnswerWords<'a>(&'a [Result<u8, Refusal>]);
 
@@ -14,16 +44,7 @@ impl fmt::Display for AnswerWords<'_> {
         if self.0.is_empty() {
             return f.write_str("-");
         }
-        for (index, answer) in self.0.iter().enumerate() {
-            if index > 0 {
-                f.write_str(",")?;
-            }
-            match answer {
-                Ok(removed) => write!(f, "{removed}")?,
-                Err(refusal) => write!(f, "r{}", refusal.number())?,
-            }
-        }
-        Ok(())
+        write_items(f, self.0, |answer| AnswerWord(*answer))
     }
 }
 
@@ -33,11 +54,11 @@ struct RegisterWords<'a>(&'a [u16]);
 
 impl fmt::Display for RegisterWords<'_> {
     fn fmt<W: fmt::Write>(&self, f: &mut fmt::Formatter<W>) -> fmt::Result {
-        for (index, value) in self.0.iter().enumerate() {
-            if index > 0 {
-                f.write_str(if index % 8 == 0 { "/" } else { "," })?;
+        for (processor, registers) in self.0.chunks(8).enumerate() {
+            if processor > 0 {
+                f.write_str("/")?;
             }
-            write!(f, "{value}")?;
+            write_items(f, registers, |value| *value)?;
         }
         Ok(())
     }
@@ -59,19 +80,23 @@ impl fmt::Display for MarkWord {
     }
 }
 
-/// Cells as value and mark, by commas.
+/// A cell as its value and its mark.
+#[derive(Clone, Copy)]
+struct CellWord(Cell);
+
+impl fmt::Display for CellWord {
+    fn fmt<W: fmt::Write>(&self, f: &mut fmt::Formatter<W>) -> fmt::Result {
+        write!(f, "{}:{}", self.0.value, MarkWord(self.0.mark))
+    }
+}
+
+/// Cells by commas.
 #[derive(Clone, Copy)]
 struct CellWords<'a>(&'a [Cell]);
 
 impl fmt::Display for CellWords<'_> {
     fn fmt<W: fmt::Write>(&self, f: &mut fmt::Formatter<W>) -> fmt::Result {
-        for (index, cell) in self.0.iter().enumerate() {
-            if index > 0 {
-                f.write_str(",")?;
-            }
-            write!(f, "{}:{}", cell.value, MarkWord(cell.mark))?;
-        }
-        Ok(())
+        write_items(f, self.0, |cell| CellWord(*cell))
     }
 }
 

@@ -2,6 +2,7 @@
 use super::steps::StepText;
 use fields::refusal::Refusal;
 use hexadecimal::encode::HexText;
+use listing::origin::Origin;
 use listing::refusal::RefusalText;
 use listing::witness_listing::WitnessBytes;
 use machine::step::Step;
@@ -28,29 +29,13 @@ struct RegisterLines<'a>(&'a [u16]);
 
 impl fmt::Display for RegisterLines<'_> {
     fn fmt<W: fmt::Write>(&self, f: &mut fmt::Formatter<W>) -> fmt::Result {
-        for (index, value) in self.0.iter().enumerate() {
-            if index % 8 == 0 {
-                write!(f, "\nprocessor {}:", index / 8)?;
+        for (processor, registers) in self.0.chunks(8).enumerate() {
+            write!(f, "\nprocessor {processor}:")?;
+            for (register, value) in registers.iter().enumerate() {
+                write!(f, " r{register} = {value}")?;
             }
-            write!(f, " r{} = {value}", index % 8)?;
         }
         Ok(())
-    }
-}
-
-/// Where a value came from.
-#[derive(Clone, Copy)]
-struct MarkText(Mark);
-
-impl fmt::Display for MarkText {
-    fn fmt<W: fmt::Write>(&self, f: &mut fmt::Formatter<W>) -> fmt::Result {
-        match self.0 {
-            Mark::Start => f.write_str("from the start"),
-            Mark::Store {
-                processor,
-                position,
-            } => write!(f, "from processor {processor} position {position}"),
-        }
     }
 }
 
@@ -63,7 +48,7 @@ impl fmt::Display for CellLines<'_> {
         for (address, cell) in self.0.iter().enumerate() {
             let Cell { value, mark } = *cell;
             if value != 0 || mark != Mark::Start {
-                write!(f, "\ncell {address} = {value} {}", MarkText(mark))?;
+                write!(f, "\ncell {address} = {value} {}", Origin::from(mark))?;
             }
         }
         Ok(())

@@ -11,7 +11,7 @@ struct RuleText(u8);
 impl fmt::Display for RuleText {
     fn fmt<W: fmt::Write>(&self, f: &mut fmt::Formatter<W>) -> fmt::Result {
         let number = self.0;
-        let Some(rule) = Rule::numbered(number) else {
+        let Ok(rule) = Rule::try_from(number) else {
             return write!(f, "rule {number}");
         };
         f.write_str(match rule {
@@ -53,16 +53,9 @@ pub struct StepLines<'a>(pub &'a [u8]);
 
 impl fmt::Display for StepLines<'_> {
     fn fmt<W: fmt::Write>(&self, f: &mut fmt::Formatter<W>) -> fmt::Result {
-        for (index, bytes) in self.0.chunks(4).enumerate() {
-            if let [rule, processor, position, guess] = bytes {
-                let step = Step {
-                    rule: *rule,
-                    processor: *processor,
-                    position: *position,
-                    guess: *guess,
-                };
-                writeln!(f, "step {index}: {}", StepText(step))?;
-            }
+        let (steps, _) = self.0.as_chunks::<4>();
+        for (index, bytes) in steps.iter().enumerate() {
+            writeln!(f, "step {index}: {}", StepText(Step::from(*bytes)))?;
         }
         write!(f, "their bytes: {}", HexText(self.0))
     }

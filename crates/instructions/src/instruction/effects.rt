@@ -21,8 +21,7 @@ impl Instruction {
         ensures { result ≡ address_sum self x }
     {
         match self {
-            Instruction::Load { k, .. } => x.wrapping_add(k),
-            Instruction::Store { k, .. } => x.wrapping_add(k),
+            Instruction::Load { k, .. } | Instruction::Store { k, .. } => x.wrapping_add(k),
             _ => 0,
         }
     }

@@ -9,20 +9,14 @@ impl Instruction {
     pub fn loads(self) -> bool
         ensures { result ≡ loads self }
     {
-        match self {
-            Instruction::Load { .. } => true,
-            _ => false,
-        }
+        matches!(self, Instruction::Load { .. })
     }
 
     /// Whether it writes a cell.
     pub fn stores(self) -> bool
         ensures { result ≡ stores self }
     {
-        match self {
-            Instruction::Store { .. } => true,
-            _ => false,
-        }
+        matches!(self, Instruction::Store { .. })
     }
 
     /// Whether it reads or writes a cell.
@@ -36,20 +30,14 @@ impl Instruction {
     pub fn computes(self) -> bool
         ensures { result ≡ computes self }
     {
-        match self {
-            Instruction::Add { .. } | Instruction::Subtract { .. } => true,
-            _ => false,
-        }
+        matches!(self, Instruction::Add { .. } | Instruction::Subtract { .. })
     }
 
     /// Whether it chooses the next place.
     pub fn branches(self) -> bool
         ensures { result ≡ branches self }
     {
-        match self {
-            Instruction::Branch { .. } => true,
-            _ => false,
-        }
+        matches!(self, Instruction::Branch { .. })
     }
 
     /// Whether it is an access of the type.
@@ -66,56 +54,21 @@ impl Instruction {
     pub fn fences_from(self, access: AccessType) -> bool
         ensures { result ≡ fence_from access self }
     {
-        match (self, access) {
-            (
-                Instruction::Fence {
-                    before: AccessType::Load,
-                    ..
-                },
-                AccessType::Load,
-            ) => true,
-            (
-                Instruction::Fence {
-                    before: AccessType::Store,
-                    ..
-                },
-                AccessType::Store,
-            ) => true,
-            _ => false,
-        }
+        matches!(self, Instruction::Fence { before, .. } if before == access)
     }
 
     /// Whether it is a fence.
     pub fn fences(self) -> bool
         ensures { result ≡ fences self }
     {
-        match self {
-            Instruction::Fence { .. } => true,
-            _ => false,
-        }
+        matches!(self, Instruction::Fence { .. })
     }
 
     /// Whether it is a fence that later accesses of the type come after.
     pub fn fences_to(self, access: AccessType) -> bool
         ensures { result ≡ fence_to access self }
     {
-        match (self, access) {
-            (
-                Instruction::Fence {
-                    after: AccessType::Load,
-                    ..
-                },
-                AccessType::Load,
-            ) => true,
-            (
-                Instruction::Fence {
-                    after: AccessType::Store,
-                    ..
-                },
-                AccessType::Store,
-            ) => true,
-            _ => false,
-        }
+        matches!(self, Instruction::Fence { after, .. } if after == access)
     }
 
     /// The register that it reads first, for an access the one of its address.
@@ -123,11 +76,11 @@ impl Instruction {
         ensures { result ≡ first_operand self }
     {
         match self {
-            Instruction::Add { s1, .. } => s1,
-            Instruction::Subtract { s1, .. } => s1,
-            Instruction::Load { s1, .. } => s1,
-            Instruction::Store { s1, .. } => s1,
-            Instruction::Branch { s1, .. } => s1,
+            Instruction::Add { s1, .. }
+            | Instruction::Subtract { s1, .. }
+            | Instruction::Load { s1, .. }
+            | Instruction::Store { s1, .. }
+            | Instruction::Branch { s1, .. } => s1,
             Instruction::Fence { .. } => None,
         }
     }
@@ -137,9 +90,9 @@ impl Instruction {
         ensures { result ≡ second_operand self }
     {
         match self {
-            Instruction::Add { s2, .. } => s2,
-            Instruction::Subtract { s2, .. } => s2,
-            Instruction::Store { s2, .. } => s2,
+            Instruction::Add { s2, .. }
+            | Instruction::Subtract { s2, .. }
+            | Instruction::Store { s2, .. } => s2,
             _ => None,
         }
     }
@@ -148,11 +101,10 @@ impl Instruction {
     pub fn writes(self, register: u8) -> bool
         ensures { result ≡ writes self register }
     {
-        match self {
-            Instruction::Add { d, .. } => d == register,
-            Instruction::Subtract { d, .. } => d == register,
-            Instruction::Load { d, .. } => d == register,
-            _ => false,
-        }
+        matches!(
+            self,
+            Instruction::Add { d, .. } | Instruction::Subtract { d, .. } | Instruction::Load { d, .. }
+                if d == register
+        )
     }
 }

@@ -23,11 +23,12 @@ impl<M: Memory> ClosedRun<M> {
         if !self.finished {
             return Err(Refusal::RunUnfinished);
         }
-        let rows = self.registers.as_slice();
-        if processor as usize >= rows.len() || register >= 8 {
-            return Err(Refusal::Absent);
-        }
-        Ok(rows[processor as usize].values[register as usize])
+        let row = self
+            .registers
+            .get(processor as usize)
+            .ok_or(Refusal::Absent)?;
+        let value = row.values.get(register as usize).copied();
+        value.ok_or(Refusal::Absent)
     }
 
     /// A cell after a finished run, read as processor 0; nothing changes.

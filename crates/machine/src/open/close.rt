@@ -23,11 +23,8 @@ fn witness_of(rows: &[Processor], order: Bounded<Access, 64>) -> Witness
     requires few { length rows.now ≤ 4 }
     ensures { execution_of result ≡ record { paths = map core_path (map core_of rows.now); sources = flat_map core_sources (map core_of rows.now); order = items order } }
 {
-    match Witness::from_parts(all_paths(rows), all_sources(rows), order) {
-        Some(witness) => witness,
-        // there is a path, so this does not happen
-        None => Witness::new(),
-    }
+    // there is a path, so there is a witness
+    Witness::from_parts(all_paths(rows), all_sources(rows), order).unwrap()
 }
 
 /// The closed run of one to four processors, a memory order and a memory.

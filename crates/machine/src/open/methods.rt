@@ -1,14 +1,14 @@
 // Starting, stepping and closing a run.
 ghost use Rattle.std.specs.Prelude.{◌≡◌, ◌<◌, map, length};
-ghost use Rattle.rules.specs.Act.{act, fetch};
 ghost use Rattle.question.specs.Litmus.{code_at};
 ghost use Rattle.question.specs.Views.{litmus_of};
+ghost use Rattle.rules.specs.Act.{fetch};
 ghost use Rattle.machine.specs.State.{started, start_cell, core_at};
-ghost use Rattle.machine.specs.Steps.{answer, after, step_outcome, fetch_outcome, act_outcome, changed, removed, cells_after};
+ghost use Rattle.machine.specs.Steps.{answer, after, step_outcome, act_outcome, cells_after};
 ghost use Rattle.machine.specs.Views.{open_state, run_question};
 
 use super::super::order::after_step;
-use super::super::processor::{Processor, Processors};
+use super::super::processor::Processors;
 use super::super::step::Step;
 use super::OpenRun;
 use bounded::vector::Bounded;
@@ -16,8 +16,9 @@ use fields::refusal::Refusal;
 use memory::cell::{Cell, Mark};
 use memory::memory::Memory;
 use question::question::Question;
-use rules::act::{act, fetch, loaded};
+use rules::act::{act, fetch};
 use rules::change::{Action, Change, Effect};
+use rules::entry::Entry;
 use rules::rule::Rule;
 use witness::record::Access;
 
@@ -35,12 +36,12 @@ fn write_start<M: Memory>(memory: &mut M, start: &[u16])
     requires { length start.now ≡ 16 }
     ensures { M.Memory.cells memory.new ≡ map start_cell start.now }
 {
-    for address in 0..16u16 {
+    for (address, value) in start.iter().enumerate() {
         memory.write(
             0,
-            address,
+            address as u16,
             Cell {
-                value: start[address as usize],
+                value: *value,
                 mark: Mark::Start,
             },
         );
@@ -55,10 +56,7 @@ impl<'q, M: Memory> OpenRun<'q, M> {
     {
         let mut memory = memory;
         write_start(&mut memory, question.start());
-        let order = Bounded::new(Access {
-            processor: 0,
-            position: 0,
-        });
+        let order = Bounded::new(Access::default());
         OpenRun {
             question,
             processors: Processors::new(),
@@ -73,75 +71,67 @@ impl<'q, M: Memory> OpenRun<'q, M> {
         ensures state { open_state M.Memory.cells self.new ≡ after (open_state M.Memory.cells self.old) (step_outcome (run_question self.old) (open_state M.Memory.cells self.old) step) }
         ensures question { self.new.question ≡ self.old.question }
     {
-        let Some(rule) = Rule::numbered(step.rule) else {
-            return Err(Refusal::RuleOrProcessorAbsent);
-        };
+        let rule = Rule::try_from(step.rule)?;
         if step.processor as usize >= self.question.processors() {
             return Err(Refusal::RuleOrProcessorAbsent);
         }
         match rule {
-            Rule::Fetch => self.fetch(step.processor, step.position, step.guess),
-            _ => self.act(rule, step.processor, step.position, step.guess),
+            Rule::Fetch => {
+                let entry = self.fetched_entry(step)?;
+                self.processors.fetched(step.processor as usize, entry);
+                Ok(0)
+            }
+            _ => self.act(rule, step),
         }
     }
 
-    /// Makes a change of the entry at a position of a processor, and answers how many entries it removed.
-    fn make(&mut self, processor: u8, position: u8, change: Change) -> u8
-        requires { processor < length (run_question self.old).code }
-        ensures value { result ≡ removed change.cut (length (core_at (open_state M.Memory.cells self.old) processor).entries) }
-        ensures state { open_state M.Memory.cells self.new ≡ changed (open_state M.Memory.cells self.old) processor position change }
-        ensures question { self.new.question ≡ self.old.question }
+    /// The entry that a fetch of a processor adds to its buffer.
+    fn fetched_entry(&self, step: Step) -> Result<Entry, Refusal>
+        requires { step.processor < length (run_question self.now).code }
+        ensures { result ≡ fetch (code_at (run_question self.now) step.processor) (core_at (open_state M.Memory.cells self.now) step.processor).counter (core_at (open_state M.Memory.cells self.now) step.processor).entries step.position step.guess }
     {
-        write_cell(&mut self.memory, processor, change.effect);
-        after_step(
-            &mut self.order,
-            Access {
-                processor,
-                position,
-            },
-            change.cut,
-            change.effect,
-        );
-        self.processors
-            .make(processor as usize, position as usize, change)
-    }
-
-    /// A fetch of a processor.
-    fn fetch(&mut self, processor: u8, position: u8, guess: u8) -> Result<u8, Refusal>
-        requires { processor < length (run_question self.old).code }
-        ensures value { result ≡ answer (fetch_outcome (run_question self.old) (open_state M.Memory.cells self.old) processor position guess) }
-        ensures state { open_state M.Memory.cells self.new ≡ after (open_state M.Memory.cells self.old) (fetch_outcome (run_question self.old) (open_state M.Memory.cells self.old) processor position guess) }
-        ensures question { self.new.question ≡ self.old.question }
-    {
-        let row = self.processors.rows[processor as usize];
-        let entry = fetch(
+        let row = self.processors.rows[step.processor as usize];
+        fetch(
             self.question,
-            processor,
+            step.processor,
             row.counter,
             row.entries.as_slice(),
-            position,
-            guess,
-        )?;
-        self.processors.fetched(processor as usize, entry);
-        Ok(0)
+            step.position,
+            step.guess,
+        )
     }
 
-    /// A step of rules 2 to 8 of a processor.
-    fn act(&mut self, rule: Rule, processor: u8, position: u8, guess: u8) -> Result<u8, Refusal>
-        requires { processor < length (run_question self.old).code }
-        ensures value { result ≡ answer (act_outcome (open_state M.Memory.cells self.old) rule processor position guess) }
-        ensures state { open_state M.Memory.cells self.new ≡ after (open_state M.Memory.cells self.old) (act_outcome (open_state M.Memory.cells self.old) rule processor position guess) }
+    /// A step of rules 2 to 8 of a processor: makes the change that it asks for, and answers how many entries it removed.
+    fn act(&mut self, rule: Rule, step: Step) -> Result<u8, Refusal>
+        requires { step.processor < length (run_question self.old).code }
+        ensures value { result ≡ answer (act_outcome (open_state M.Memory.cells self.old) rule step.processor step.position step.guess) }
+        ensures state { open_state M.Memory.cells self.new ≡ after (open_state M.Memory.cells self.old) (act_outcome (open_state M.Memory.cells self.old) rule step.processor step.position step.guess) }
         ensures question { self.new.question ≡ self.old.question }
     {
+        let Step {
+            processor,
+            position,
+            guess,
+            ..
+        } = step;
         let row = self.processors.rows[processor as usize];
         let entries = row.entries.as_slice();
-        match act(rule, entries, processor, position, guess)? {
-            Action::Make(change) => Ok(self.make(processor, position, change)),
+        let change = match act(rule, entries, processor, position, guess)? {
+            Action::Make(change) => change,
             Action::Read { address } => {
                 let cell = self.memory.read(processor, address);
-                let change = loaded(entries[position as usize], cell.value, cell.mark);
-                Ok(self.make(processor, position, change))
+                Change::loaded(entries[position as usize], cell.value, cell.mark)
             }
-        }
+        };
+        let access = Access {
+            processor,
+            position,
+        };
+        write_cell(&mut self.memory, processor, change.effect);
+        after_step(&mut self.order, access, change.cut, change.effect);
+        Ok(
+            self.processors
+                .make(processor as usize, position as usize, change),
+        )
     }
 }

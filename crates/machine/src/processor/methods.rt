@@ -8,25 +8,15 @@ ghost use Rattle.machine.specs.Views.{core_of};
 use super::{Processor, Processors};
 use bounded::vector::Bounded;
 use instructions::instruction::Instruction;
-use memory::cell::Mark;
 use rules::change::Change;
 use rules::entry::Entry;
 
-/// What fills the slots of a buffer that are not in use.
-const BLANK: Entry = Entry {
-    place: 0,
-    instruction: Instruction::Add {
-        d: 0,
-        s1: None,
-        s2: None,
-        k: 0,
-    },
-    next: 0,
-    done: false,
-    value: 0,
-    address: None,
-    datum: None,
-    mark: Mark::Start,
+/// The instruction of what fills the slots of a buffer that are not in use.
+const BLANK: Instruction = Instruction::Add {
+    d: 0,
+    s1: None,
+    s2: None,
+    k: 0,
 };
 
 impl Processor {
@@ -36,7 +26,7 @@ impl Processor {
     {
         Processor {
             counter: 0,
-            entries: Bounded::new(BLANK),
+            entries: Bounded::new(Entry::fetched(0, BLANK, 0)),
         }
     }
 

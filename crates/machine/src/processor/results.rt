@@ -10,53 +10,45 @@ use super::super::registers::Registers;
 use super::{Processor, Processors};
 use bounded::vector::Bounded;
 use instructions::instruction::Instruction;
+use instructions::register::WritesRegister;
 use memory::cell::Mark;
 use question::question::Question;
 use rules::entry::Entry;
-use rules::matching::WritesRegister;
 use search::nearest_earlier;
+use std::array::from_fn;
 use witness::record::Source;
 
 /// Whether every entry is done.
 fn all_done(entries: &[Entry]) -> bool
     ensures { result ≡ all_done entries.now }
 {
-    for entry in entries {
-        if !entry.done {
-            return false;
-        }
-    }
-    true
+    entries.iter().all(|entry| entry.done)
 }
 
 /// A register: the result of its youngest writer, or 0.
 fn register_value(entries: &[Entry], register: u8) -> u16
     ensures { result ≡ register_value entries.now register }
 {
-    match nearest_earlier(entries, entries.len(), &WritesRegister(register)) {
-        Some(j) => entries[j].value,
-        None => 0,
-    }
+    nearest_earlier(entries, entries.len(), &WritesRegister(register))
+        .and_then(|j| entries.get(j))
+        .map_or(0, |entry| entry.value)
 }
 
 /// A value with where it came from, as a source record.
 fn source_record(mark: Mark, value: u16) -> Source
     ensures { result ≡ source_record mark value }
 {
-    match mark {
-        Mark::Start => Source {
-            processor: 255,
-            position: 255,
-            value,
-        },
+    let (processor, position) = match mark {
+        Mark::Start => (255, 255),
         Mark::Store {
             processor,
             position,
-        } => Source {
-            processor,
-            position,
-            value,
-        },
+        } => (processor, position),
+    };
+    Source {
+        processor,
+        position,
+        value,
     }
 }
 
@@ -73,11 +65,9 @@ impl Processor {
         ensures { row_values result ≡ registers_of (core_of self.now) }
     {
         let entries = self.entries.as_slice();
-        let mut values = [0; 8];
-        for r in 0..8 {
-            values[r] = register_value(entries, r as u8);
+        Registers {
+            values: from_fn(|register| register_value(entries, register as u8)),
         }
-        Registers { values }
     }
 
     /// The places that it ran.
@@ -108,8 +98,7 @@ impl Processors {
     pub fn first(&self, count: usize) -> &[Processor]
         ensures { result.now ≡ take count self.now.rows }
     {
-        let all = &self.rows[..];
-        if count < 4 { &all[0..count] } else { all }
+        &self.rows[..count.min(4)]
     }
 }
 
@@ -117,15 +106,9 @@ impl Processors {
 pub fn all_finished(question: &Question, rows: &[Processor]) -> bool
     ensures { result ≡ all_finished (litmus_of question.now).code (map core_of rows.now) }
 {
-    for p in 0..rows.len() {
-        if p >= question.processors() {
-            return true;
-        }
-        if !rows[p].is_finished(question.code(p)) {
-            return false;
-        }
-    }
-    true
+    rows.iter()
+        .zip(0..question.processors())
+        .all(|(row, p)| row.is_finished(question.code(p)))
 }
 
 /// The registers of at most four processors.
@@ -154,11 +137,7 @@ pub fn all_paths(rows: &[Processor]) -> Bounded<Bounded<u8, 16>, 4>
 pub fn all_sources(rows: &[Processor]) -> Bounded<Source, 64>
     ensures { items result ≡ take 64 (flat_map core_sources (map core_of rows.now)) }
 {
-    let mut all = Bounded::new(Source {
-        processor: 0,
-        position: 0,
-        value: 0,
-    });
+    let mut all = Bounded::new(Source::default());
     for row in rows {
         row.add_sources(&mut all);
     }

@@ -14,6 +14,7 @@ const BLANK: Instruction = Instruction::Fence {
 
 impl Code {
     /// No instructions.
+    #[tactic(auto, unfolding(crate::specs::Sound::code_sound))]
     pub fn empty() -> Code
         ensures { instructions_of result ≡ [] }
     {

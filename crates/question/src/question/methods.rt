@@ -11,6 +11,7 @@ use instructions::instruction::Instruction;
 
 impl Question {
     /// One processor without instructions, all cells 0: the question 50 00 00.
+    #[tactic(auto, unfolding(fields::specs::Rows::read_row, fields::specs::Rows::read_within, crate::specs::Codes::code_from))]
     pub fn new() -> Question
         ensures { question_of (80 ∷ 0 ∷ 0 ∷ []) ≡ Ok (litmus_of result) }
     {
@@ -34,12 +35,10 @@ impl Question {
         ensures value { result.now ≡ code_at (litmus_of self.now) processor }
         ensures few { length result.now ≤ 16 }
     {
-        let all = self.processors.as_slice();
-        if processor < all.len() {
-            all[processor].instructions.as_slice()
-        } else {
-            &[]
-        }
+        self.processors
+            .as_slice()
+            .get(processor)
+            .map_or(&[], |code| code.instructions.as_slice())
     }
 
     /// The values that the sixteen cells start with.

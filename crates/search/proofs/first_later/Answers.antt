@@ -1,26 +1,23 @@
-use Rattle.std.proofs.Common.{length, sym, ◌∙◌, arith}
-use Rattle.search.specs.Search.{passes}
-use Rattle.search.proofs.Searches.{first_hit_under, first_miss_under, first_past, passes_read}
+use Rattle.std.proofs.Common.{◌≡◌, ◌+◌, ◌-◌, length, sym, ap, ◌∙◌, rules}
+use Rattle.std.specs.Option.{option_map}
+use Rattle.search.specs.Search.{first, passes}
+use Rattle.search.proofs.Chains.{found_front, first_behind}
+use Rattle.search.proofs.first_later.Given.{Over}
 use Rattle.search.proofs.first_later.Goals as goal
+use Rattle.search.proofs.first_later.Goals.{After-position}
 
-pub returns-then-matches : goal.returns-then-matches
-returns-then-matches g c =
+-- What the chain found, counted from the start.
+found : (g : Over) (c : After-position g) →
+    option_map (λ k. c.args.from + k) c.position.result ≡ first (passes (λ x. g.T.Matches.hits x c.args.key.now) c.args.items.now) c.args.from (length c.args.items.now - c.args.from)
+found g c =
     let p = λ (x : g.row.T.Denot). g.T.Matches.hits x c.args.key.now in
-    let xs = c.args.items.now in
-    let k = c.loop-k.k in
-    let hit = passes_read p xs k c.index-items-k.result (omega arith) c.index-items-k.is ∙ sym c.if-matches.ensures in
-    record { value = sym (c.loop-k.invariant ∙ first_hit_under (passes p xs) k (length xs) (omega arith) hit); within = omega arith }
+    let rest = c.iter.result.rest.now in
+    let w = c.position.ensures.runs in
+    first_behind p c.args.items.now c.args.from c.min.result rest c.position.result c.min.ensures c.iter.ensures.rest
+    (found_front w.0 _ _ p rest (λ x r q k. search rules) (λ x r q k. search rules) c.position.result (search rules) (search rules) w.2)
 
-pub loop-k-preserved : goal.loop-k-preserved
-loop-k-preserved g c =
-    let p = λ (x : g.row.T.Denot). g.T.Matches.hits x c.args.key.now in
-    let xs = c.args.items.now in
-    let k = c.loop-k.k in
-    let miss = passes_read p xs k c.index-items-k.result (omega arith) c.index-items-k.is ∙ sym c.if-matches.ensures in
-    c.loop-k.invariant ∙ first_miss_under (passes p xs) k (length xs) (omega arith) miss
+pub returns-in_err-found-clause-value : goal.returns-in_err-found-clause-value
+returns-in_err-found-clause-value g c = c.from_residual.ensures ∙ sym (ap (option_map (λ k. c.args.from + k)) c.in_err-found.was) ∙ found g (goal.at.returns-in_err-found-clause-value g c).After-position
 
-pub returns : goal.returns
-returns g c =
-    let p = λ (x : g.row.T.Denot). g.T.Matches.hits x c.args.key.now in
-    let xs = c.args.items.now in
-    record { value = sym (c.loop-k.invariant ∙ first_past (passes p xs) c.loop-k.k (length xs) (omega arith)); within = tt }
+pub returns-clause-value : goal.returns-clause-value
+returns-clause-value g c = sym (ap (option_map (λ k. c.args.from + k)) c.in_ok-found.was) ∙ found g (goal.at.returns-clause-value g c).After-position

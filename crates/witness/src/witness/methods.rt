@@ -4,7 +4,7 @@ ghost use Rattle.std.specs.Option.{option_map};
 ghost use Rattle.bounded.specs.Items.{items};
 ghost use Rattle.witness.specs.Views.{execution_of};
 
-use super::super::record::{Access, NO_ACCESS, NO_SOURCE, Source};
+use super::super::record::{Access, Source};
 use super::Witness;
 use bounded::vector::Bounded;
 
@@ -17,8 +17,8 @@ impl Witness {
         paths.push(Bounded::new(0));
         Witness {
             paths,
-            sources: Bounded::new(NO_SOURCE),
-            order: Bounded::new(NO_ACCESS),
+            sources: Bounded::new(Source::default()),
+            order: Bounded::new(Access::default()),
         }
     }
 
@@ -51,12 +51,10 @@ impl Witness {
     pub fn path(&self, processor: usize) -> &[u8]
         ensures { result.now ≡ slice_index_or (execution_of self.now).paths processor [] }
     {
-        let all = self.paths.as_slice();
-        if processor < all.len() {
-            all[processor].as_slice()
-        } else {
-            &[]
-        }
+        self.paths
+            .as_slice()
+            .get(processor)
+            .map_or(&[], |path| path.as_slice())
     }
 
     /// The sources of the loads, by processor then position.

@@ -6,7 +6,7 @@ use Rattle.checker.proofs.order.is_among.Goals as goal
 
 pub returns : goal.returns
 returns c =
-    let b = access_at c.args.position.processor c.args.position.position in
+    let b = access_at c.args.at.processor c.args.at.position in
     c.is_some.ensures
     ∙ ap is_some (c.nearest_earlier.ensures.value ∙ nearest_by_places (λ a. same_access a b) c.args.order.now (access_at 0 0) c.args.count c.requires)
     ∙ sym (some_is_found _ c.args.count)

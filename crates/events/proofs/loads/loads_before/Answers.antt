@@ -1,49 +1,31 @@
-use Rattle.std.proofs.Common.{◌≡◌, length, sym, ap, ◌∙◌, arith}
-use Rattle.question.specs.Litmus.{code_at}
+use Rattle.std.proofs.Common.{◌≡◌, ◌<◌, min, length, map, rules, ap, ◌∙◌, arith}
+use Rattle.std.specs.List.{sum, range_with_len}
+use Rattle.std.proofs.lemmas.Iterator.{YieldsList-from_range, YieldsList-from_map}
+use Rattle.std.proofs.lemmas.Iterator.Consumers.{sum_from_yields_List, fits_from_yields_list}
 use Rattle.question.specs.Views.{litmus_of}
 use Rattle.witness.specs.Views.{execution_of}
 use Rattle.witness.proofs.Within.{within}
-use Rattle.events.specs.Sources.{path_at, loads_upto, loads_before}
-use Rattle.events.proofs.LoadCounts.{loads_few, path_short, before_none, before_next, before_few, before_all}
+use Rattle.events.specs.Sources.{loads_before}
+use Rattle.events.proofs.LoadCounts.{path_loads, before_few, before_least, loads_added}
 use Rattle.events.proofs.loads.loads_before.Goals as goal
-use Rattle.events.proofs.loads.loads_before.Goals.{then-processors-paths, else-processors-paths}
 
--- The loads of the path that was just counted.
-path-counted : (c : goal.After-path_loads-count) →
+pub sum-requires-clause-fits : goal.sum-requires-clause-fits
+sum-requires-clause-fits c =
     let q = litmus_of c.args.question.now in
     let w = execution_of c.args.witness.now in
-    let p = c.loop-p.p in
-    c.path_loads-count.result ≡ loads_upto (code_at q p) (path_at w p) (length (path_at w p))
-path-counted c = c.path_loads-count.ensures ∙ (λ i. loads_upto (c.code.ensures.value i) (c.path.ensures i) (length (c.path.ensures i)))
-
-pub loop-p-init : goal.loop-p-init
-loop-p-init c = sym (before_none (litmus_of c.args.question.now) (execution_of c.args.witness.now))
-
-pub overflow_add-count : goal.overflow_add-count
-overflow_add-count c =
-    let q = litmus_of c.args.question.now in
-    let w = execution_of c.args.witness.now in
-    let p = c.loop-p.p in
-    let bounds = within c.args.witness.now in
-    omega (arith, c.loop-p.invariant, path-counted c, before_few q w p bounds, path_short w p bounds, loads_few (code_at q p) (path_at w p) (length (path_at w p)))
-
-pub loop-p-preserved : goal.loop-p-preserved
-loop-p-preserved c =
-    omega (arith, c.loop-p.invariant, path-counted c, before_next (litmus_of c.args.question.now) (execution_of c.args.witness.now) c.loop-p.p)
+    let f = path_loads q w in
+    let n = c.min.result in
+    let small : sum (map f (range_with_len 0 n)) < 18446744073709551616 = omega (arith, loads_added q w n, before_few q w n (within c.args.witness.now)) in
+    fits_from_yields_list c.map.result _ (YieldsList-from_map _ f (YieldsList-from_range 0 n n (cc) (omega arith)) c.map.ensures.closure (λ x r k d. search rules)) small
 
 pub returns : goal.returns
 returns c =
     let q = litmus_of c.args.question.now in
     let w = execution_of c.args.witness.now in
-    let n = c.args.processors in
-    let last : c.loop-p.p ≡ c.if-processors-paths.last = omega arith in
-    let all : c.loop-p.count ≡ loads_before q w c.if-processors-paths.last = c.loop-p.invariant ∙ ap (loads_before q w) last in
-    let whole : loads_before q w c.if-processors-paths.last ≡ loads_before q w n =
-    elim c.if-processors-paths.branch [
-      | then-processors-paths v ↦ ap (loads_before q w) v.last-is
-      | else-processors-paths v ↦
-          ap (loads_before q w) (v.last-is ∙ c.processors-paths.ensures)
-          ∙ before_all q w n (omega (arith, c.processors-paths.ensures, v.if-processors-paths.false))
-    ]
-    in
-    record { count = all ∙ whole; few = omega (arith, all, whole, before_few q w n (within c.args.witness.now)) }
+    let f = path_loads q w in
+    let n = c.min.result in
+    let added : c.sum.result ≡ sum (map f (range_with_len 0 n)) =
+    sum_from_yields_List c.map.result _ c.sum.ensures.ran (YieldsList-from_map _ f (YieldsList-from_range 0 n n (cc) (omega arith)) c.map.ensures.closure (λ x r k d. search rules)) in
+    let least : n ≡ min c.args.processors (length w.paths) = c.min.ensures ∙ ap (min c.args.processors) c.processors.ensures in
+    let count : c.sum.result ≡ loads_before q w c.args.processors = added ∙ loads_added q w n ∙ before_least q w c.args.processors n least in
+    record { count = count; few = omega (arith, count, before_few q w c.args.processors (within c.args.witness.now)) }

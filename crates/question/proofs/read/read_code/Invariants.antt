@@ -5,7 +5,7 @@ use Rattle.question.specs.Sound.{all_sound}
 use Rattle.question.proofs.Codes.{after}
 use Rattle.question.proofs.read.read_code.Given as goal
 
-abbrev pub invariant-loop-place : goal.invariant-loop-place
-invariant-loop-place l =
-    (length (items l.instructions) ≡ l.place) × (all_sound l.places (items l.instructions) ≡ true) ×
-    (code_from l.places l.places l.contents ≡ after (items l.instructions) (code_from l.places (l.places - l.place) (drop (8 * l.place) l.contents)))
+abbrev pub invariant-loop-record : goal.invariant-loop-record
+invariant-loop-record l =
+    (length (items l.instructions) ≡ l.record-index) × (all_sound (length l.records) (items l.instructions) ≡ true) ×
+    (code_from (length l.records) (length l.records) l.contents ≡ after (items l.instructions) (code_from (length l.records) (length l.records - l.record-index) (drop (8 * l.record-index) l.contents)))

@@ -3,7 +3,8 @@ use Rattle.std.proofs.lemmas.List.{at_drop_all, at_drop_more}
 use Rattle.bounded.specs.Items.{items}
 use Rattle.bounded.proofs.Fits.{items_fit}
 use Rattle.machine.specs.Fires.{step}
-use Rattle.completeness.specs.StepsFor.{bytes_of_steps, step_bytes}
+use Rattle.completeness.specs.StepsFor.{bytes_of_steps}
+use Rattle.machine.specs.Bytes.{step_bytes}
 use Rattle.rebuilder.proofs.Pushes.{pushed, pushed_all}
 use Rattle.rebuilder.proofs.rebuild.bytes_of.Goals as goal
 
@@ -17,7 +18,7 @@ loop-step-preserved c =
     let st = get_or steps i (step 0 0 0 0) in
     let rest = bytes_of_steps (drop (i + 1) steps) in
     let all = items c.loop-step.bytes in
-    pushed 1024 all (items c.extend.new.self) (step_bytes st) rest c.extend.ensures
+    pushed 1024 all (items c.extend.new.self) (step_bytes st) rest (c.extend.ensures ∙ ap (λ b. take 1024 (all ++ b)) c.from.ensures)
     ∙ ap (λ xs. take 1024 (all ++ xs)) (sym (at_drop_more bytes_of_steps steps i (step 0 0 0 0) c.loop-step-test.true))
     ∙ c.loop-step.invariant
 

@@ -1,20 +1,15 @@
--- The steps so far grow step by step, and are all at the end.
-use Rattle.std.proofs.Common.{◌≡◌, ◌<◌, ◌≤◌, length, vec_items, rules}
-use Rattle.runs.proofs.Steps.{step_joins, steps_end, steps_cut}
+use Rattle.std.proofs.Common.{◌≡◌, ◌/◌, ◌%◌, ◌≤◌, length, ◌∙◌, rules, arith}
+use Rattle.std.proofs.lemmas.List.{take_all}
+use Rattle.runs.proofs.Steps.{steps_cut, steps_whole}
 use Rattle.runs.proofs.step_bytes.steps_of.Goals as goal
 
-pub loop-rest-preserved : goal.loop-rest-preserved
-loop-rest-preserved c =
-    let h : 4 ≤ length c.loop-rest.rest.now = search rules in
-    step_joins _ c.loop-rest.rest.now _ c.loop-rest.invariant h (vec_items c.push.new.self) c.in_ok-push.ensures.items
+pub returns-in_default : goal.returns-in_default
+returns-in_default c = steps_cut c.args.bytes.now (λ e. absurd (omega (arith, e, c.in_default.len_at_least, c.as_chunks.ensures.back_len)))
 
-pub returns-then-is_empty : goal.returns-then-is_empty
-returns-then-is_empty c =
-    let h : length c.loop-rest.rest.now ≡ 0 = search rules in
-    steps_end _ c.loop-rest.rest.now _ c.loop-rest.invariant h
-
-pub returns-else-is_empty : goal.returns-else-is_empty
-returns-else-is_empty c =
-    let h : 0 < length c.loop-rest.rest.now = search rules in
-    let m : length c.loop-rest.rest.now < 4 = search rules in
-    steps_cut _ c.loop-rest.rest.now _ c.loop-rest.invariant h m
+pub returns : goal.returns
+returns c =
+    let chunks = c.as_chunks.result.0.now in
+    let whole : length c.args.bytes.now % 4 ≡ 0 = search rules in
+    let all : length chunks ≤ c.loop-chunk.chunk-index = search rules in
+    steps_whole (length c.args.bytes.now / 4) c.args.bytes.now _ (omega arith)
+    (c.loop-chunk.invariant ∙ take_all c.loop-chunk.chunk-index chunks all ∙ c.as_chunks.ensures.front)

@@ -1,11 +1,7 @@
--- The steps so far, in front of those of the rest, are the steps of all bytes.
-use Rattle.std.proofs.Common.{length, vec_items}
-use Rattle.runs.specs.StepBytes.{steps_of}
-use Rattle.runs.proofs.Steps.{Joins}
+-- The steps so far have the bytes of the chunks so far.
+use Rattle.std.proofs.Common.{◌≡◌, map, take, vec_items}
+use Rattle.machine.specs.Bytes.{step_bytes}
 use Rattle.runs.proofs.step_bytes.steps_of.Given as goal
 
-abbrev pub invariant-loop-rest : goal.invariant-loop-rest
-invariant-loop-rest l = Joins (vec_items l.steps) l.rest (steps_of l.initial.rest)
-
-abbrev pub decreases-loop-rest : goal.decreases-loop-rest
-decreases-loop-rest l = length l.rest
+abbrev pub invariant-loop-chunk : goal.invariant-loop-chunk
+invariant-loop-chunk l = map step_bytes (vec_items l.steps) ≡ take l.chunk-index l.chunks

@@ -1,32 +1,20 @@
-use Rattle.std.proofs.Common.{◌≡◌, ℕ, ◌/◌, ◌%◌, List, vec_items, sym, ap, ◌∙◌, arith}
+use Rattle.std.proofs.Common.{ℕ, ◌/◌, ◌%◌, Result, refl, ◌∙◌, rules}
+use Rattle.std.specs.List.{range_with_len}
+use Rattle.std.specs.Result.{result_ok}
+use Rattle.std.proofs.lemmas.Iterator.{YieldsList-from_range, items_from_collect}
+use Rattle.std.proofs.lemmas.Iterator.Consumers.{YieldsList-from_filter_map}
+use Rattle.std.proofs.lemmas.Result.{IfOk-weaker}
+use Rattle.fields.specs.declared.refusal.Refusal.{Refusal}
 use Rattle.machine.specs.Results.{register_answer}
 use Rattle.machine.specs.Views.{closed_state}
-use Rattle.runs.specs.Records.{given, shown_registers}
-use Rattle.runs.proofs.Shown.{gathered_value, gathered_nothing}
+use Rattle.runs.specs.Records.{shown_registers}
+use Rattle.runs.proofs.Shown.{values_given}
 use Rattle.runs.proofs.whole.registers.Goals as goal
-use Rattle.runs.proofs.whole.registers.Goals.{in-Ok+in_ok-push, in_default}
-
-pub loop-index-init : goal.loop-index-init
-unfolding shown_registers
-loop-index-init g c = c.new-values.ensures.items
-
-pub loop-index-preserved : goal.loop-index-preserved
-unfolding shown_registers
-loop-index-preserved g c =
-    let run = closed_state g.M.Memory.cells c.args.run.now in
-    let f : ℕ → List ℕ = λ k. given (register_answer run (k / 8) (k % 8)) in
-    let n = c.loop-index.index in
-    elim c.match-register.branch [
-      | in-Ok+in_ok-push w ↦
-          gathered_value f n (vec_items c.loop-index.values) (vec_items c.match-register.values) w.in-Ok.value c.loop-index.invariant
-          (ap vec_items w.values-is ∙ w.in_ok-push.ensures.items)
-          (ap given (sym c.register.ensures ∙ w.in-Ok.is))
-      | in_default w ↦
-          gathered_nothing f n (vec_items c.match-register.values) (ap vec_items w.values-is ∙ c.loop-index.invariant)
-          (ap given (sym c.register.ensures ∙ w.in_default.is))
-    ]
 
 pub returns : goal.returns
+unfolding shown_registers
 returns g c =
-    let e : c.loop-index.index ≡ 32 = omega arith in
-    c.loop-index.invariant ∙ ap (λ n. shown_registers (closed_state g.M.Memory.cells c.args.run.now) n) e
+    let answer : ℕ → Result ℕ Refusal = λ k. register_answer (closed_state g.M.Memory.cells c.args.run.now) (k / 8) (k % 8) in
+    IfOk-weaker c.collect.result _ _ (λ v h. h ∙ values_given answer (range_with_len 0 32))
+    (items_from_collect c.collect.result c.collect.ensures.ran
+    (YieldsList-from_filter_map _ (λ k. result_ok (answer k)) (YieldsList-from_range 0 32 32 (search rules) refl) c.filter_map.ensures.closure (λ x r q k. search rules)))

@@ -1,10 +1,14 @@
-use Rattle.std.proofs.Common.{◌/◌, ◌%◌, [], ◌∷◌, ◌++◌, length, take, ap, ◌∙◌}
+use Rattle.std.proofs.Common.{◌≡◌, ◌/◌, ◌%◌, [], ◌∷◌, ◌++◌, length, get_or, take, ap, ◌∙◌, arith}
 use Rattle.bounded.specs.Items.{items}
 use Rattle.bounded.proofs.Takes.{take_append_both}
 use Rattle.witness.proofs.write.put_field.Goals as goal
 
 pub returns : goal.returns
 returns c =
+    let xs = items c.args.out.now in
     let b = c.args.contents.now in
-    let header = c.args.tag ∷ length b / 256 ∷ length b % 256 ∷ [] in
-    c.extend-2.ensures ∙ ap (λ t. take 466 (t ++ b)) c.extend.ensures ∙ take_append_both 466 (items c.args.out.now) header b
+    let n = length b in
+    let q : n / 256 % 256 ≡ n / 256 = omega arith in
+    let size = c.to_be_bytes.ensures ∙ ap (λ high. high ∷ n % 256 ∷ []) q in
+    let header = c.extend.ensures ∙ ap (λ r. take 466 (xs ++ c.args.tag ∷ get_or r 0 0 ∷ get_or r 1 0 ∷ [])) size in
+    c.extend-2.ensures ∙ ap (λ t. take 466 (t ++ b)) header ∙ take_append_both 466 xs (c.args.tag ∷ n / 256 ∷ n % 256 ∷ []) b

@@ -1,12 +1,10 @@
-use Rattle.std.proofs.Common.{sym, ◌∙◌, arith, rules}
-use Rattle.checker.proofs.Loops.{all_none, all_more, all_fails}
+use Rattle.std.proofs.Common.{rules}
+use borrow.Author.Tests.{tests}
+use Rattle.checker.specs.Tests.{is_ordered}
+use Rattle.checker.specs.Views.{asked, stated}
 use Rattle.checker.proofs.evaluated.Evaluated.all_ordered.Goals as goal
 
-pub loop-processor-init : goal.loop-processor-init
-loop-processor-init c = all_none _
-
-pub loop-processor-preserved : goal.loop-processor-preserved
-loop-processor-preserved c = search (rules, all_more)
-
-pub returns-then-not-path_is_ordered : goal.returns-then-not-path_is_ordered
-returns-then-not-path_is_ordered c = sym (all_fails _ _ c.loop-processor.processor (omega arith) (sym c.path_is_ordered.ensures ∙ c.if-not-path_is_ordered.true))
+pub returns : goal.returns
+returns c =
+    let r = c.args.self.now in
+    c.every_position.ensures (is_ordered (asked r) (stated r)) (λ at b k. search (rules, tests))

@@ -1,18 +1,11 @@
-use Rattle.std.proofs.Common.{sym, ◌∙◌, arith, rules}
-use Rattle.checker.specs.Tests.{load_value_test}
-use Rattle.checker.proofs.Loops.{all_none, all_more, all_fails}
+use Rattle.std.proofs.Common.{rules}
+use borrow.Author.Tests.{tests}
+use Rattle.checker.specs.Tests.{is_youngest, load_value_test}
+use Rattle.checker.specs.Views.{asked, stated}
 use Rattle.checker.proofs.evaluated.Evaluated.load_value_test.Goals as goal
-
-pub loop-processor-init : goal.loop-processor-init
-loop-processor-init c = all_none _
-
-pub loop-processor-preserved : goal.loop-processor-preserved
-loop-processor-preserved c = search (rules, all_more)
-
-pub returns-then-not-path_is_youngest : goal.returns-then-not-path_is_youngest
-unfolding load_value_test
-returns-then-not-path_is_youngest c = sym (all_fails _ _ c.loop-processor.processor (omega arith) (sym c.path_is_youngest.ensures ∙ c.if-not-path_is_youngest.true))
 
 pub returns : goal.returns
 unfolding load_value_test
-returns c = search rules
+returns c =
+    let r = c.args.self.now in
+    c.every_position.ensures (is_youngest (asked r) (stated r)) (λ at b k. search (rules, tests))

@@ -8,6 +8,6 @@ pub returns : goal.returns
 returns g c =
     let s = c.args.self.now in
     c.row_is_kept.ensures
-    ∙ row_is_what_is_kept (g.R.OrderingRule.keeps c.args.rule.now) (asked s) (stated s) c.args.processor c.args.first
+    ∙ row_is_what_is_kept (g.R.OrderingRule.keeps c.args.rule.now) (asked s) (stated s) c.args.from.processor c.args.from.position
     c.events.result.now (items c.reached_from-reached.result) c.as_slice.result.now
     c.events.ensures.value c.reached_from-reached.ensures c.as_slice.ensures

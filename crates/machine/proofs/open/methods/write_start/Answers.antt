@@ -8,7 +8,7 @@ loop-address-preserved g c =
     let cells = g.M.Memory.cells c.loop-address.memory in
     let start = c.args.start.now in
     let i = c.loop-address.address in
-    let more = started_more cells start i (g.met.M.Memory.sixteen c.loop-address.memory) c.loop-address-test.true c.loop-address.invariant in
+    let more = started_more cells start i (g.met.M.Memory.sixteen c.loop-address.memory) (omega arith) c.loop-address.invariant in
     subst (λ (x : List Cell). Started x start (i + 1)) (sym c.write.ensures) more
 
 pub returns : goal.returns

@@ -1,13 +1,10 @@
-use Rattle.machine.proofs.Closing.{done_stops, done_goes_on, done_all}
+use Rattle.std.proofs.Common.{◌∙◌, rules}
+use Rattle.std.proofs.lemmas.Iterator.{YieldsList-from_slice}
+use Rattle.std.proofs.lemmas.Iterator.Search.{all_from_yields_List}
+use Rattle.rules.specs.declared.entry.Entry.{Entry}
+use Rattle.machine.proofs.Closing.{done_list}
 use Rattle.machine.proofs.processor.results.all_done.Goals as goal
 
-pub returns-then-not-entry : goal.returns-then-not-entry
-returns-then-not-entry c =
-    done_stops c.args.entries.now c.loop-entry.entry-index _ c.loop-entry-test.true c.loop-entry.invariant c.if-not-entry.true
-
-pub loop-entry-preserved : goal.loop-entry-preserved
-loop-entry-preserved c =
-    done_goes_on c.args.entries.now c.loop-entry.entry-index _ c.loop-entry-test.true c.loop-entry.invariant c.if-not-entry.false
-
 pub returns : goal.returns
-returns c = done_all c.args.entries.now c.loop-entry.entry-index c.loop-entry-test.false c.loop-entry.invariant
+returns c =
+    all_from_yields_List (λ (e : Entry). e.done) _ _ c.all.result c.all.ensures.ran (YieldsList-from_slice c.args.entries.now cc) (λ x b q k. search rules) ∙ done_list c.args.entries.now

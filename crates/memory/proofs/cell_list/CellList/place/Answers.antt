@@ -1,20 +1,13 @@
-use Rattle.std.proofs.Common.{◌<◌, ◌≤◌, length, get_or, ap, ◌∙◌, arith}
-use Rattle.std.proofs.lemmas.List.{take_all}
+use Rattle.std.proofs.Common.{◌≡◌, ◌≢◌, rules, tests}
+use Rattle.std.proofs.lemmas.Iterator.{IsFirst-from_position, YieldsList-from_slice}
 use Rattle.bounded.specs.Items.{items}
-use Rattle.memory.specs.CellList.{blank_row}
-use Rattle.memory.specs.Rows.{has_more}
+use Rattle.memory.specs.declared.cell_list.Row.{Row}
+use Rattle.memory.proofs.Places.{first_place}
 use Rattle.memory.proofs.cell_list.CellList.place.Goals as goal
-
-pub loop-i-preserved : goal.loop-i-preserved
-loop-i-preserved c =
-    let rs = items c.args.self.now.rows in
-    let i = c.loop-i.i in
-    let l : i < length rs = omega (arith, ap length c.as_slice-rows.ensures) in
-    has_more rs i c.args.address blank_row l c.loop-i.invariant
-    (λ e. c.if-rows-i.false (ap (λ xs. (get_or xs i blank_row).address) c.as_slice-rows.ensures ∙ e))
 
 pub returns : goal.returns
 returns c =
-    let rs = items c.args.self.now.rows in
-    let l : length rs ≤ c.loop-i.i = omega (arith, ap length c.as_slice-rows.ensures) in
-    rw (take_all c.loop-i.i rs l) at c.loop-i.invariant
+    let a = c.args.address in
+    first_place a (items c.args.self.now.rows) c.position.result
+    (IsFirst-from_position _ _ _ (λ (r : Row). r.address ≡ a) (λ (r : Row). r.address ≢ a) c.position.ensures.ran (YieldsList-from_slice (items c.args.self.now.rows) cc)
+    (λ x q k. search (rules, tests)) (λ x q k. search (rules, tests)))

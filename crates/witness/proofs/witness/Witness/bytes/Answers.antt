@@ -28,6 +28,6 @@ returns c =
     let l : length xs ≡ length c.as_slice-path-items.result.now = ap length (sym c.as_slice-path-items.ensures) in
     let p : items c.loop-path.out ≡ take 466 (path_fields w) =
     c.loop-path.invariant ∙ ap (λ t. take 466 (flat_map (λ v. field_bytes path_tag (items v)) t)) (take_all c.loop-path.path-index xs (omega arith)) in
-    let s = c.as_slice-3.ensures ∙ c.source_contents-sources.ensures ∙ ap (λ t. take 256 (flat_map source_bytes t)) c.as_slice-2.ensures in
-    let o = c.as_slice-5.ensures ∙ c.order_contents-order.ensures ∙ ap (λ t. take 128 (flat_map access_bytes t)) c.as_slice-4.ensures in
+    let s = c.as_slice-3.ensures ∙ c.write_records-sources.ensures ∙ ap (λ t. take 256 (flat_map source_bytes t)) c.as_slice-2.ensures in
+    let o = c.as_slice-5.ensures ∙ c.write_records-order.ensures ∙ ap (λ t. take 128 (flat_map access_bytes t)) c.as_slice-4.ensures in
     bytes_put w p s o c.put_field-2.ensures c.put_field-3.ensures

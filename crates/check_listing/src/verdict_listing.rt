@@ -1,0 +1,31 @@
+// The listing of a check.
+use super::accesses::AccessLines;
+use super::paths::Paths;
+use checker::axiom::verdict_number;
+use checker::check::check;
+use ordering::rule::OrderingRule;
+use question::question::Question;
+use std::fmt;
+use witness::witness::Witness;
+
+/// The verdict on a witness under a rule with its reason, and the accesses in memory order.
+#[derive(Drop)]
+pub struct CheckListing<'a, R: OrderingRule> {
+    pub rule: &'a R,
+    pub question: &'a Question,
+    pub witness: &'a Witness,
+}
+
+impl<R: OrderingRule> fmt::Display for CheckListing<'_, R> {
+    fn fmt<W: fmt::Write>(&self, f: &mut fmt::Formatter<W>) -> fmt::Result {
+        let verdict = check(self.rule, self.question, self.witness);
+        let paths = Paths::new(self.question, self.witness);
+        write!(f, "verdict {}: ", verdict_number(verdict))?;
+        match verdict.map_err(|axiom| paths.reason(self.rule, axiom)) {
+            Ok(()) => f.write_str("accepted")?,
+            Err(Some(reason)) => write!(f, "{reason}")?,
+            Err(None) => f.write_str("not accepted")?,
+        }
+        write!(f, "\n{}", AccessLines(&paths))
+    }
+}

@@ -1,7 +1,0 @@
-use Rattle.std.proofs.Common.{◌≡◌, true}
-use Rattle.checker.specs.Tests.{all_below, is_sourced}
-use Rattle.checker.specs.Views.{asked, stated}
-use Rattle.checker.proofs.evaluated.Evaluated.path_is_sourced.Given as goal
-
-abbrev pub invariant-loop-position : goal.invariant-loop-position
-invariant-loop-position l = all_below (is_sourced (asked l.self) (stated l.self) l.processor) l.position ≡ true

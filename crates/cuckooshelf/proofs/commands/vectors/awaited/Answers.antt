@@ -1,7 +1,0 @@
--- The name is not the first one.
-use Rattle.std.proofs.Common.{rules}
-use Rattle.std.proofs.lemmas.Slice.Eq.{bytes_eq-Decides}
-use Rattle.cuckooshelf.proofs.commands.vectors.awaited.Goals as goal
-
-pub returns-else-eq : goal.returns-else-eq
-returns-else-eq c = search (rules, bytes_eq-Decides)

@@ -1,0 +1,7 @@
+-- A step as bytes.
+use Rattle.std.specs.Prelude.{ℕ, List, [], ◌∷◌}
+use Rattle.machine.specs.declared.step.Step.{Step}
+
+-- The bytes of a step, and of steps.
+abbrev pub step_bytes : Step → List ℕ
+step_bytes st = st.rule ∷ st.processor ∷ st.position ∷ st.guess ∷ []
