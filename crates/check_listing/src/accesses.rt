@@ -1,6 +1,8 @@
 // The accesses of a witness in memory order, as text.
-use super::paths::Paths;
+use checker::evaluated::Evaluated;
+use checker::position::Position;
 use events::event::Event;
+use instructions::instruction::effects::cell_number;
 use listing::access::AccessText;
 use listing::origin::Origin;
 use std::fmt;
@@ -20,7 +22,7 @@ impl fmt::Display for AccessLine {
         let Some(event) = self.event else {
             return f.write_str("not on the paths");
         };
-        let cell = event.address % 16;
+        let cell = cell_number(event.address);
         if event.instruction.stores() {
             return write!(f, "store cell {cell} = {}", event.datum);
         }
@@ -37,7 +39,7 @@ impl fmt::Display for AccessLine {
 
 /// The accesses of a witness in memory order, a line each.
 #[derive(Clone, Copy)]
-pub struct AccessLines<'a>(pub &'a Paths<'a>);
+pub struct AccessLines<'a>(pub &'a Evaluated<'a, 'a>);
 
 impl fmt::Display for AccessLines<'_> {
     fn fmt<W: fmt::Write>(&self, f: &mut fmt::Formatter<W>) -> fmt::Result {
@@ -47,10 +49,14 @@ impl fmt::Display for AccessLines<'_> {
             return f.write_str(" no access");
         }
         for access in order {
+            let Position {
+                processor,
+                position,
+            } = Position::from(*access);
             let line = AccessLine {
                 access: *access,
-                event: self.0.event(*access),
-                source: self.0.source(*access),
+                event: self.0.events(processor).get(position).copied(),
+                source: self.0.sources(processor).get(position).copied(),
             };
             write!(f, "\n  {line}")?;
         }

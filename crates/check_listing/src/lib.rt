@@ -2,7 +2,6 @@
 #![tactic(auto)]
 
 pub mod accesses;
-mod paths;
 mod reason;
 mod reason_search;
 pub mod verdict_listing;

@@ -1,8 +1,9 @@
 // The listing of a check.
 use super::accesses::AccessLines;
-use super::paths::Paths;
+use super::reason_search::reason;
 use checker::axiom::verdict_number;
 use checker::check::check;
+use checker::evaluated::Evaluated;
 use ordering::rule::OrderingRule;
 use question::question::Question;
 use std::fmt;
@@ -19,13 +20,13 @@ pub struct CheckListing<'a, R: OrderingRule> {
 impl<R: OrderingRule> fmt::Display for CheckListing<'_, R> {
     fn fmt<W: fmt::Write>(&self, f: &mut fmt::Formatter<W>) -> fmt::Result {
         let verdict = check(self.rule, self.question, self.witness);
-        let paths = Paths::new(self.question, self.witness);
+        let evaluated = Evaluated::new(self.question, self.witness);
         write!(f, "verdict {}: ", verdict_number(verdict))?;
-        match verdict.map_err(|axiom| paths.reason(self.rule, axiom)) {
+        match verdict.map_err(|axiom| reason(self.rule, &evaluated, axiom)) {
             Ok(()) => f.write_str("accepted")?,
             Err(Some(reason)) => write!(f, "{reason}")?,
             Err(None) => f.write_str("not accepted")?,
         }
-        write!(f, "\n{}", AccessLines(&paths))
+        write!(f, "\n{}", AccessLines(&evaluated))
     }
 }

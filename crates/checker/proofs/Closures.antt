@@ -36,13 +36,15 @@ reached_push R i n row row' more b l e f h m =
     let hit : b ≡ (R i n || some_below (λ k. get_or (reached R i n) k false && R k n) n) = h ∙ ap (λ xs. R i n || some_below (λ k. get_or xs k false && R k n) n) same in
     m ∙ push_room 16 row b (omega (arith, ap length e, length_reached R i n)) ∙ ap (λ xs. xs ++ b ∷ []) e ∙ ap (λ x. reached R i n ++ x ∷ []) hit ∙ sym (reached_next R i n)
 
+-- What is reached through the events of a path is reached through its positions.
+pub reached_on_path : (keeps : List Event → ℕ → ℕ → Bool) (q : Litmus) (w : Execution) (p i : ℕ) (es : List Event) → es ≡ events q w p →
+    reached (keeps es) i (length es) ≡ reached (keeps (events q w p)) i (length (path_at w p))
+reached_on_path keeps q w p i es d = ap (λ xs. reached (keeps xs) i (length xs)) d ∙ ap (reached (keeps (events q w p)) i) (length_events q w p)
+
 -- The test of a row is the test of what is kept.
-pub row_is_what_is_kept : (keeps : List Event → ℕ → ℕ → Bool) (q : Litmus) (w : Execution) (p i : ℕ) (es : List Event) (row row' : List Bool) →
-    es ≡ events q w p → row ≡ reached (keeps es) i (length es) → row' ≡ row →
-    all_below (kept_by_row q w row' p i) (length row') ≡ all_below (is_kept_in_order q w keeps p i) (length (path_at w p))
-row_is_what_is_kept keeps q w p i es row row' d e f =
-    let R = keeps (events q w p) in
-    let same : row' ≡ reached R i (length (path_at w p)) =
-    f ∙ e ∙ ap (λ xs. reached (keeps xs) i (length xs)) d ∙ ap (reached R i) (length_events q w p) in
+pub row_is_what_is_kept : (keeps : List Event → ℕ → ℕ → Bool) (q : Litmus) (w : Execution) (p i : ℕ) (row : List Bool) →
+    row ≡ reached (keeps (events q w p)) i (length (path_at w p)) →
+    all_below (kept_by_row q w row p i) (length row) ≡ all_below (is_kept_in_order q w keeps p i) (length (path_at w p))
+row_is_what_is_kept keeps q w p i row same =
     ap (λ xs. all_below (kept_by_row q w xs p i) (length xs)) same
-    ∙ ap (all_below (is_kept_in_order q w keeps p i)) (length_reached R i (length (path_at w p)))
+    ∙ ap (all_below (is_kept_in_order q w keeps p i)) (length_reached (keeps (events q w p)) i (length (path_at w p)))

@@ -14,8 +14,8 @@ pub mod methods;
 /// A question and a witness of it, with the events and the source records of each path.
 #[derive(Drop)]
 pub struct Evaluated<'q, 'w> {
-    pub(super) question: &'q Question,
-    pub(super) witness: &'w Witness,
+    pub question: &'q Question,
+    pub witness: &'w Witness,
     paths: Bounded<PathEvents, 4>,
     ghost evaluation: { ∥ Evaluation (litmus_of question.now) (execution_of witness.now) (items paths) ∥₁ },
 }

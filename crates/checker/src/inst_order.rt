@@ -1,7 +1,7 @@
 // The fourth test: accesses that an ordering rule keeps, through any events between, stand so in the order.
 ghost use Rattle.std.specs.Prelude.{◌≡◌, ◌≤◌, false, ◌&&◌, ◌||◌, length, slice_index_or};
 ghost use Rattle.bounded.specs.Items.{items};
-ghost use Rattle.events.specs.Sources.{path_at};
+ghost use Rattle.events.specs.Sources.{path_at, events};
 ghost use Rattle.ordering.specs.Tests.{some_below};
 ghost use Rattle.checker.specs.Tests.{all_below, reached, is_kept_in_order, inst_order_test};
 ghost use Rattle.checker.specs.Views.{asked, stated, kept_by_row};
@@ -54,8 +54,15 @@ fn reached_from<R: OrderingRule>(rule: &R, events: &[Event], first: usize) -> Bo
 }
 
 impl<'q, 'w> Evaluated<'q, 'w> {
+    /// Which positions of its path a rule keeps after a position, through any events between.
+    pub fn reached<R: OrderingRule>(&self, rule: &R, from: Position) -> Bounded<bool, 16>
+        ensures { items result ≡ reached (R.OrderingRule.keeps rule.now (events (asked self.now) (stated self.now) from.processor)) from.position (length (path_at (stated self.now) from.processor)) }
+    {
+        reached_from(rule, self.events(from.processor), from.position)
+    }
+
     /// Whether two positions of a path, if they are accesses of which the second is reached, stand so in the order.
-    fn is_kept_in_order(&self, reached: &[bool], from: Position, second: usize) -> bool
+    pub fn is_kept_in_order(&self, reached: &[bool], from: Position, second: usize) -> bool
         ensures { result ≡ kept_by_row (asked self.now) (stated self.now) reached.now from.processor from.position second }
     {
         let to = Position {
@@ -79,12 +86,12 @@ impl<'q, 'w> Evaluated<'q, 'w> {
     fn position_is_kept<R: OrderingRule>(&self, rule: &R, from: Position) -> bool
         ensures { result ≡ all_below (is_kept_in_order (asked self.now) (stated self.now) (R.OrderingRule.keeps rule.now) from.processor from.position) (length (path_at (stated self.now) from.processor)) }
     {
-        let reached = reached_from(rule, self.events(from.processor), from.position);
+        let reached = self.reached(rule, from);
         self.row_is_kept(reached.as_slice(), from)
     }
 
     /// Whether all accesses that a rule keeps stand so in the order.
-    pub fn inst_order_test<R: OrderingRule>(&self, rule: &R) -> bool
+    pub(crate) fn inst_order_test<R: OrderingRule>(&self, rule: &R) -> bool
         ensures { result ≡ inst_order_test (asked self.now) (stated self.now) (R.OrderingRule.keeps rule.now) }
     {
         self.every_position(|from| self.position_is_kept(rule, from))

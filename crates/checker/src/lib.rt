@@ -3,11 +3,11 @@
 
 pub mod axiom;
 pub mod check;
-mod evaluated;
+pub mod evaluated;
 pub mod fixed;
 mod inst_order;
 mod load_value;
 mod order;
-mod paths;
-mod position;
+pub mod paths;
+pub mod position;
 mod sources;

@@ -21,7 +21,7 @@ impl<'q, 'w> Evaluated<'q, 'w> {
     }
 
     /// The number in the order of a position's youngest candidate.
-    fn youngest(&self, at: Position) -> Option<usize>
+    pub fn youngest(&self, at: Position) -> Option<usize>
         ensures { result ≡ nearest (is_candidate (asked self.now) (stated self.now) at.processor at.position) (length (stated self.now).order) }
     {
         (0..self.accesses()).rfind(|number| self.is_candidate(at, *number))
@@ -38,14 +38,14 @@ impl<'q, 'w> Evaluated<'q, 'w> {
     }
 
     /// Whether the source of a position, if it is a load, is its youngest candidate.
-    fn is_youngest(&self, at: Position) -> bool
+    pub fn is_youngest(&self, at: Position) -> bool
         ensures { result ≡ is_youngest (asked self.now) (stated self.now) at.processor at.position }
     {
         !self.event(at).instruction.loads() || self.names_found(self.source(at), self.youngest(at))
     }
 
     /// Whether the source of every load is its youngest candidate.
-    pub fn load_value_test(&self) -> bool
+    pub(crate) fn load_value_test(&self) -> bool
         ensures { result ≡ load_value_test (asked self.now) (stated self.now) }
     {
         self.every_position(|at| self.is_youngest(at))

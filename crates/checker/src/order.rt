@@ -40,7 +40,7 @@ impl<'q, 'w> Evaluated<'q, 'w> {
     }
 
     /// Whether a position of a path is an access.
-    fn is_access(&self, at: Position) -> bool
+    pub fn is_access(&self, at: Position) -> bool
         ensures { result ≡ is_access (asked self.now) (stated self.now) at.processor at.position }
     {
         at.position < self.positions(at.processor) && self.event(at).instruction.accesses()
@@ -56,7 +56,7 @@ impl<'q, 'w> Evaluated<'q, 'w> {
     }
 
     /// Whether a position, if it is an access, stands in the order.
-    fn is_ordered(&self, at: Position) -> bool
+    pub fn is_ordered(&self, at: Position) -> bool
         ensures { result ≡ is_ordered (asked self.now) (stated self.now) at.processor at.position }
     {
         let order = self.witness.order();
@@ -64,7 +64,7 @@ impl<'q, 'w> Evaluated<'q, 'w> {
     }
 
     /// The number of a position in the order; 0 where it does not stand there.
-    pub fn rank(&self, at: Position) -> usize
+    pub(crate) fn rank(&self, at: Position) -> usize
         ensures { result ≡ rank (asked self.now) (stated self.now) at.processor at.position }
     {
         let order = self.witness.order();
@@ -87,7 +87,7 @@ impl<'q, 'w> Evaluated<'q, 'w> {
 
     /// Whether the order has each access of the paths once, and nothing else.
     #[tactic(auto, unfolding(crate::specs::Tests::order_test))]
-    pub fn order_test(&self) -> bool
+    pub(crate) fn order_test(&self) -> bool
         ensures { result ≡ order_test (asked self.now) (stated self.now) }
     {
         self.all_new() && self.all_ordered()

@@ -13,7 +13,7 @@ use events::lookup::event_at;
 use instructions::instruction::Instruction;
 
 /// Where the first events of a path lead: to place 0 before the first.
-fn leads_to(events: &[Event], count: usize) -> u16
+pub fn leads_to(events: &[Event], count: usize) -> u16
     ensures { result ≡ leads_to events.now count }
 {
     if count == 0 {
@@ -24,7 +24,7 @@ fn leads_to(events: &[Event], count: usize) -> u16
 }
 
 /// Whether an event stands at a place of the code, where those before it lead.
-fn place_fits(code: &[Instruction], events: &[Event], position: usize) -> bool
+pub fn place_fits(code: &[Instruction], events: &[Event], position: usize) -> bool
     ensures { result ≡ place_fits code.now events.now position }
 {
     let place = event_at(events, position).place;
@@ -62,7 +62,7 @@ impl<'q, 'w> Evaluated<'q, 'w> {
 
     /// Whether there is a path for each processor, each runs through, and there is a source record for each load.
     #[tactic(auto, unfolding(crate::specs::Tests::path_test))]
-    pub fn path_test(&self) -> bool
+    pub(crate) fn path_test(&self) -> bool
         ensures { result ≡ path_test (asked self.now) (stated self.now) }
     {
         let processors = self.question.processors();

@@ -8,11 +8,12 @@ ghost use Rattle.checker.specs.Views.{asked, stated};
 
 use super::evaluated::Evaluated;
 use super::position::Position;
+use instructions::instruction::effects::cell_number;
 use witness::record::Source;
 
 impl<'q, 'w> Evaluated<'q, 'w> {
     /// The value that a cell starts with; 0 past the last cell.
-    pub fn start_value(&self, address: u16) -> u16
+    pub(crate) fn start_value(&self, address: u16) -> u16
         ensures { result ≡ slice_index (asked self.now).start address }
     {
         self.question
@@ -23,14 +24,14 @@ impl<'q, 'w> Evaluated<'q, 'w> {
     }
 
     /// The cell that a position's address means.
-    pub fn cell(&self, at: Position) -> u16
+    pub(crate) fn cell(&self, at: Position) -> u16
         ensures { result ≡ cell (asked self.now) (stated self.now) at.processor at.position }
     {
-        self.event(at).address % 16
+        cell_number(self.event(at).address)
     }
 
     /// Whether a position is a store of the paths to a cell.
-    pub fn stores_to(&self, address: u16, at: Position) -> bool
+    pub(crate) fn stores_to(&self, address: u16, at: Position) -> bool
         ensures { result ≡ stores_to (asked self.now) (stated self.now) address (access_at at.processor at.position) }
     {
         at.position < self.positions(at.processor)
@@ -47,14 +48,14 @@ impl<'q, 'w> Evaluated<'q, 'w> {
     }
 
     /// Whether a source record names the start.
-    pub fn names_start(&self, source: Source) -> bool
+    pub(crate) fn names_start(&self, source: Source) -> bool
         ensures { result ≡ names_start (asked self.now) (stated self.now) source }
     {
-        source.processor == 0xff && source.position == 0xff
+        source.store().is_none()
     }
 
     /// Whether the source of a position, if it is a load, is the start with its value or a store to its cell with its data.
-    fn is_sourced(&self, at: Position) -> bool
+    pub fn is_sourced(&self, at: Position) -> bool
         ensures { result ≡ is_sourced (asked self.now) (stated self.now) at.processor at.position }
     {
         if !self.event(at).instruction.loads() {
@@ -67,7 +68,7 @@ impl<'q, 'w> Evaluated<'q, 'w> {
     }
 
     /// Whether every load has a source.
-    pub fn source_test(&self) -> bool
+    pub(crate) fn source_test(&self) -> bool
         ensures { result ≡ source_test (asked self.now) (stated self.now) }
     {
         self.every_position(|at| self.is_sourced(at))

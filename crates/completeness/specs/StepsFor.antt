@@ -97,5 +97,6 @@ carry_out q (a ∷ order) s =
 unfoldable pub steps_for : Litmus → Execution → List Step
 steps_for q w = fetches q w ++ (carry_out q w.order (run_all q (started q) (fetches q w))).steps
 
+-- The bytes of steps.
 abbrev pub bytes_of_steps : List Step → List ℕ
 bytes_of_steps sts = flat_map step_bytes sts

@@ -1,4 +1,4 @@
-// The program: lists questions and witnesses, runs steps, and compares files of cases.
+// The program: lists questions and witnesses, runs steps, checks witnesses, rebuilds steps, marks answers, and compares files of cases.
 #![tactic(auto)]
 
 use commands::Command;

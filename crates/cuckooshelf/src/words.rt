@@ -13,8 +13,6 @@ pub fn named<T: FromStr<Err = Unknown>, F: FnOnce(String) -> Failure>(
 ) -> Result<T, Failure>
     requires { F.IsAlwaysCallable failure }
 {
-    match word.parse::<T>() {
-        Ok(x) => Ok(x),
-        Err(Unknown) => Err(failure(word.clone()?)),
-    }
+    word.parse::<T>()
+        .try_map_err(|_| Ok(failure(word.clone()?)))
 }

@@ -10,7 +10,7 @@ ghost use Rattle.witness.specs.Views.{execution_of};
 
 use super::event::Event;
 use super::loads::{instruction_at, is_load, loads_before};
-use super::lookup::{NO_EVENT, operand};
+use super::lookup::operand;
 use super::path::PathEvents;
 use bounded::vector::Bounded;
 use instructions::instruction::Instruction;
@@ -73,7 +73,7 @@ fn path_events(code: &[Instruction], places: &[u8], sources: &[Source]) -> Bound
     requires { length places.now ≤ 16 }
     ensures { items result ≡ events_upto code.now places.now (λ i. (get_or sources.now i no_source).value) (length places.now) }
 {
-    let mut events = Bounded::new(NO_EVENT);
+    let mut events = Bounded::new(Event::default());
     for (i, place) in places.iter().enumerate() {
         let stated = source_at(sources, i).value;
         let event = next_event(code, events.as_slice(), *place, stated);
@@ -101,7 +101,7 @@ pub fn evaluate(question: &Question, witness: &Witness) -> Bounded<PathEvents, 4
     ensures sources { sources_of (items result) ≡ all_sources (litmus_of question.now) (execution_of witness.now) }
 {
     let mut rows = Bounded::new(PathEvents {
-        events: Bounded::new(NO_EVENT),
+        events: Bounded::new(Event::default()),
         sources: Bounded::new(Source::default()),
     });
     for p in 0..witness.processors() {

@@ -1,8 +1,8 @@
 // An event of a path.
 use instructions::instruction::Instruction;
 
-/// An instruction that was run, with what it came to.
-#[derive(Clone, Copy)]
+/// An instruction that was run, with what it came to; by default an addition of nothing.
+#[derive(Clone, Copy, Default)]
 pub struct Event {
     /// where the instruction stands
     pub place: u8,

@@ -6,7 +6,6 @@ ghost use Rattle.events.specs.Sources.{loads_upto, loads_before};
 ghost use Rattle.question.specs.Views.{litmus_of};
 ghost use Rattle.witness.specs.Views.{execution_of};
 
-use super::lookup::NO_INSTRUCTION;
 use instructions::instruction::Instruction;
 use question::question::Question;
 use witness::witness::Witness;
@@ -15,7 +14,7 @@ use witness::witness::Witness;
 pub(super) fn instruction_at(code: &[Instruction], place: u8) -> Instruction
     ensures { result ≡ instruction_at code.now place }
 {
-    code.get(place as usize).copied().unwrap_or(NO_INSTRUCTION)
+    code.get(place as usize).copied().unwrap_or_default()
 }
 
 /// Whether the instruction at a place of the code is a load.

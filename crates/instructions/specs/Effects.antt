@@ -1,7 +1,11 @@
 -- What an instruction computes from the values of its operands.
-use Rattle.std.specs.Prelude.{ℕ, ◌+◌, ◌-◌, ◌%◌, Bool, cond, ◌==◌}
+use Rattle.std.specs.Prelude.{ℕ, None, ◌+◌, ◌-◌, ◌%◌, Bool, cond, ◌==◌}
 use Rattle.instructions.specs.declared.instruction.Instruction.{Instruction}
 use Rattle.instructions.specs.declared.instruction.Instruction.TheVariants.{Add, Subtract, Load, Store, Branch, Fence}
+
+-- An addition of nothing: what stands where no instruction does.
+abbrev pub nothing : Instruction
+nothing = Add 0 None None 0
 
 -- The result of an addition or a subtraction, modulo 65,536.
 abbrev pub arithmetic_result : Instruction → ℕ → ℕ → ℕ

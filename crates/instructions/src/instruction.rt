@@ -1,4 +1,7 @@
 // Instructions.
+ghost use Rattle.std.specs.Prelude.{◌≡◌};
+ghost use Rattle.instructions.specs.Effects.{nothing};
+
 pub mod effects;
 pub mod kinds;
 
@@ -50,4 +53,18 @@ pub enum Instruction {
         before: AccessType,
         after: AccessType,
     },
+}
+
+impl Default for Instruction {
+    // An addition of nothing.
+    ghost is_default = { λ i. i ≡ nothing };
+
+    fn default() -> Instruction {
+        Instruction::Add {
+            d: 0,
+            s1: None,
+            s2: None,
+            k: 0,
+        }
+    }
 }

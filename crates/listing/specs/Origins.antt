@@ -1,13 +1,8 @@
 -- Where a value came from.
-use Rattle.std.specs.Prelude.{◌&&◌, ℕ, cond, List, ◌++◌, Some, None, codes, decimal, Option, ◌==◌}
+use Rattle.std.specs.Prelude.{ℕ, List, ◌++◌, Some, None, codes, decimal, Option}
 use Rattle.memory.specs.declared.cell.Mark.{Mark}
 use Rattle.memory.specs.declared.cell.Mark.TheVariants.{Start, Store}
 use Rattle.witness.specs.declared.record.Access.{Access}
-use Rattle.witness.specs.declared.record.Source.{Source}
-
--- The store that a source record names; none where it names the start.
-abbrev pub named_store : Source → Option Access
-named_store s = cond (s.processor == 255 && s.position == 255) None (Some (record { processor = s.processor; position = s.position }))
 
 -- The store of a mark; none for the start.
 abbrev pub marked_store : Mark → Option Access

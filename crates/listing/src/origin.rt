@@ -1,6 +1,7 @@
 // Where a value came from, as text.
 ghost use Rattle.std.specs.Prelude.{◌≡◌, Some};
-ghost use Rattle.listing.specs.Origins.{marked_store, named_store, origin_text};
+ghost use Rattle.listing.specs.Origins.{marked_store, origin_text};
+ghost use Rattle.witness.specs.Records.{named_store};
 
 use memory::cell::Mark;
 use std::fmt;
@@ -15,18 +16,7 @@ impl From<Source> for Origin {
     ghost from_gives = { λ s o. o.0 ≡ named_store s };
 
     fn from(source: Source) -> Origin {
-        let Source {
-            processor,
-            position,
-            ..
-        } = source;
-        if processor == 0xff && position == 0xff {
-            return Origin(None);
-        }
-        Origin(Some(Access {
-            processor,
-            position,
-        }))
+        Origin(source.store())
     }
 }
 

@@ -22,7 +22,7 @@ earned_by fault.Unfinished = unfinished
 earned_by (fault.Refused e) = refused (refusal_number e)
 earned_by fault.Unreadable = unreadable
 
--- The mark that a grade is.
+-- The mark that a result is.
 abbrev pub earned_of : Result ⊤ Fault → Earned
 earned_of (Ok _) = accepted
 earned_of (Err f) = earned_by f

@@ -30,9 +30,9 @@ fn marks_are_as_defined(rt: HostRuntime) {
     for (answer, case, detail) in MARKS {
         let over_table = mark(&question, Table::new(), *answer);
         let over_list = mark(&question, CellList::new(), *answer);
-        for grade in [over_table, over_list] {
-            assert_eq!(rt; case_number(grade), *case);
-            assert_eq!(rt; detail_number(grade), *detail);
+        for earned in [over_table, over_list] {
+            assert_eq!(rt; case_number(earned), *case);
+            assert_eq!(rt; detail_number(earned), *detail);
         }
     }
 }

@@ -7,6 +7,7 @@ ghost use Rattle.ordering.specs.Tests.{same_cell, sa_mem_st, sa_st_ld, sa_ld_ld,
 use super::pair::EventPair;
 use events::event::Event;
 use instructions::instruction::AccessType;
+use instructions::instruction::effects::cell_number;
 
 /// Whether the second is a fence that accesses of the first's type come before.
 fn access_then_fence(one: Event, other: Event) -> bool
@@ -31,7 +32,7 @@ impl<'a> EventPair<'a> {
     fn same_cell(self) -> bool
         ensures { result ≡ same_cell self.entry.events.now self.entry.first self.entry.second }
     {
-        self.first_event().address % 16 == self.second_event().address % 16
+        cell_number(self.first_event().address) == cell_number(self.second_event().address)
     }
 
     /// SAMemSt: an access, then a store to the same cell.

@@ -4,6 +4,7 @@ ghost use Rattle.ordering.specs.Tests.{stores_to, nearest_store, found_depends, 
 
 use super::pair::EventPair;
 use events::event::Event;
+use instructions::instruction::effects::cell_number;
 use search::{Matches, nearest_earlier};
 
 /// Stores to the cell of an address.
@@ -14,7 +15,7 @@ impl Matches<StoresTo> for Event {
     ghost hits = { λ e k. stores_to k.0 e };
 
     fn matches(&self, key: &StoresTo) -> bool {
-        self.instruction.stores() && self.address % 16 == key.0 % 16
+        self.instruction.stores() && cell_number(self.address) == cell_number(key.0)
     }
 }
 

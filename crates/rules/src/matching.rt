@@ -4,6 +4,7 @@ ghost use Rattle.rules.specs.Ready.{writes_register};
 ghost use Rattle.rules.specs.Tests.{open_for_fence, open_fence_to_load, open_to_cell, holds_store, to_cell, same_cell};
 
 use super::entry::Entry;
+use instructions::instruction::effects::cell_number;
 use instructions::instruction::{AccessType, Instruction};
 use instructions::register::WritesRegister;
 use search::Matches;
@@ -32,7 +33,7 @@ pub struct ToCell(pub u16);
 fn same_cell(address: u16, other: Option<u16>) -> bool
     ensures { result ≡ same_cell address other }
 {
-    other.is_some_and(|other| address % 16 == other % 16)
+    other.is_some_and(|other| cell_number(address) == cell_number(other))
 }
 
 impl Matches<WritesRegister> for Entry {

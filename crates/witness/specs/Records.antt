@@ -1,5 +1,5 @@
 -- Records from their bytes, and their bytes from them.
-use Rattle.std.specs.Prelude.{ℕ, List, [], ◌∷◌, slice_index}
+use Rattle.std.specs.Prelude.{◌&&◌, ℕ, cond, List, [], ◌∷◌, Some, None, Option, ◌==◌, slice_index}
 use Rattle.fields.specs.Fields.{word, word_bytes}
 use Rattle.witness.specs.declared.record.Access.{Access}
 use Rattle.witness.specs.declared.record.Source.{Source}
@@ -33,3 +33,7 @@ unfoldable pub accesses_from : List ℕ → List Access
 accesses_from [] = []
 accesses_from (p ∷ []) = []
 accesses_from (p ∷ i ∷ b) = record { processor = p; position = i } ∷ accesses_from b
+
+-- The store that a source record names; none where it names the start.
+abbrev pub named_store : Source → Option Access
+named_store s = cond (s.processor == 255 && s.position == 255) None (Some (record { processor = s.processor; position = s.position }))

@@ -1,6 +1,6 @@
 // The records of a witness. Any values may stand in them; a checker judges them.
 ghost use Rattle.std.specs.Prelude.{◌≡◌, List, ℕ};
-ghost use Rattle.witness.specs.Records.{source_bytes, source_of, access_bytes, access_of};
+ghost use Rattle.witness.specs.Records.{source_bytes, source_of, named_store, access_bytes, access_of};
 
 /// What a load took: the store at a processor's position, or the start where both are FF; and the value.
 #[derive(Clone, Copy, PartialEq, Eq, Debug, Default)]
@@ -8,6 +8,24 @@ pub struct Source {
     pub processor: u8,
     pub position: u8,
     pub value: u16,
+}
+
+impl Source {
+    /// The store that the record names; none where it names the start.
+    pub fn store(self) -> Option<Access>
+        ensures { result ≡ named_store self }
+    {
+        let Source {
+            processor,
+            position,
+            ..
+        } = self;
+        let is_start = processor == 0xff && position == 0xff;
+        (!is_start).then_some(Access {
+            processor,
+            position,
+        })
+    }
 }
 
 /// An access in the memory order: the entry at a processor's position.

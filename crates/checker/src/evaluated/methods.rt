@@ -32,14 +32,14 @@ impl<'q, 'w> Evaluated<'q, 'w> {
     }
 
     /// How many paths there are.
-    pub fn processors(&self) -> usize
+    pub(crate) fn processors(&self) -> usize
         ensures { result ≡ length (stated self.now).paths }
     {
         self.witness.processors()
     }
 
     /// How many positions a processor's path has; none past the last path.
-    pub fn positions(&self, processor: usize) -> usize
+    pub(crate) fn positions(&self, processor: usize) -> usize
         ensures { result ≡ length (path_at (stated self.now) processor) }
     {
         self.witness.path(processor).len()
@@ -57,7 +57,7 @@ impl<'q, 'w> Evaluated<'q, 'w> {
     }
 
     /// Whether every position of the paths passes a test.
-    pub fn every_position<F: Fn(Position) -> bool>(&self, test: F) -> bool
+    pub(crate) fn every_position<F: Fn(Position) -> bool>(&self, test: F) -> bool
         requires { F.IsAlwaysCallable test }
         ensures { (t : ℕ → ℕ → Bool) → Computes F.post test t → result ≡ every_position (stated self.now) t }
     {
@@ -65,7 +65,7 @@ impl<'q, 'w> Evaluated<'q, 'w> {
     }
 
     /// How many accesses the order has.
-    pub fn accesses(&self) -> usize
+    pub(crate) fn accesses(&self) -> usize
         ensures { result ≡ length (stated self.now).order }
     {
         self.witness.order().len()
@@ -83,14 +83,14 @@ impl<'q, 'w> Evaluated<'q, 'w> {
     }
 
     /// The event at a position of a processor's path.
-    pub fn event(&self, at: Position) -> Event
+    pub(crate) fn event(&self, at: Position) -> Event
         ensures { result ≡ event (asked self.now) (stated self.now) at.processor at.position }
     {
         event_at(self.events(at.processor), at.position)
     }
 
     /// The source records of the positions of a processor's path; none past the last path.
-    fn sources(&self, processor: usize) -> &[Source]
+    pub fn sources(&self, processor: usize) -> &[Source]
         ensures { result.now ≡ path_sources (asked self.now) (stated self.now) processor }
     {
         match self.paths.as_slice().get(processor) {
@@ -100,7 +100,7 @@ impl<'q, 'w> Evaluated<'q, 'w> {
     }
 
     /// The source record of a position of a processor's path.
-    pub fn source(&self, at: Position) -> Source
+    pub(crate) fn source(&self, at: Position) -> Source
         requires { at.position < length (path_at (stated self.now) at.processor) }
         ensures { result ≡ source_at (asked self.now) (stated self.now) at.processor at.position }
     {

@@ -1,14 +1,14 @@
 // The command `vectors`.
-ghost use Rattle.std.specs.Prelude.{◌≡◌, IfOk, string_bytes};
-ghost use Rattle.std.specs.Option.{option_map};
+ghost use Rattle.std.specs.Prelude.{◌≡◌, IfOk, IsErrOf, string_bytes, None, Some};
 ghost use Rattle.cuckooshelf.specs.Answers.{RightAnswer, is_awaited};
 ghost use Rattle.cuckooshelf.specs.Lines.{Judged};
+ghost use Rattle.cuckooshelf.specs.declared.forms.Unanswered.TheVariants.{Malformed};
 
 use super::super::failure::Failure;
 use super::super::files::ReadFiles;
-use super::super::forms::Form;
 use super::super::forms::question_form::QuestionForm;
 use super::super::forms::run::RunForm;
+use super::super::forms::{Form, Unanswered};
 use super::Command;
 use std::alloc::{AllocError, Global};
 use std::fmt;
@@ -18,7 +18,7 @@ use std::fmt;
 enum Outcome<'a> {
     /// Blank, or a remark.
     NoCase,
-    /// A form to which there is no answer yet.
+    /// A form that is not compared yet.
     Skipped,
     Agrees,
     Differs { expected: &'a str, answer: String },
@@ -26,7 +26,7 @@ enum Outcome<'a> {
 }
 
 /// How many lines agree, differ and were skipped.
-#[derive(Clone, Copy)]
+#[derive(Clone, Copy, Default)]
 struct Tally {
     agree: u64,
     differ: u64,
@@ -44,21 +44,22 @@ impl fmt::Display for Tally {
     }
 }
 
-/// Is this a form to which there is no answer yet.
+/// Whether this is a form that is not compared yet.
 fn awaited(form: &str) -> bool
     ensures { result ≡ is_awaited form.now }
 {
     form == "check" || form == "rebuild"
 }
 
-/// The answer to a case, by the name of its form; nothing where it is malformed.
-fn answer(heap: Global, form: &str, operands: &str) -> Result<Option<String>, AllocError>
-    ensures { IfOk result (λ o. RightAnswer form.now operands.now (option_map string_bytes o)) }
+/// The answer to a case, by the name of its form.
+fn answer(heap: Global, form: &str, operands: &str) -> Result<String, Unanswered>
+    ensures answered { IfOk result (λ s. RightAnswer form.now operands.now (Some (string_bytes s))) }
+    ensures malformed { IsErrOf result Malformed → RightAnswer form.now operands.now None }
 {
     match form {
         "question" => QuestionForm::answer(heap, operands),
         "run" => RunForm::answer(heap, operands),
-        _ => Ok(None),
+        _ => Err(Unanswered::Malformed),
     }
 }
 
@@ -78,20 +79,17 @@ fn compare(heap: Global, line: &str) -> Result<Outcome<'_>, AllocError>
     let Some((operands, expected)) = rest.split_once(" => ") else {
         return Ok(Outcome::Malformed);
     };
-    match answer(heap, form, operands)? {
-        None => Ok(Outcome::Malformed),
-        Some(answer) if answer.as_str() == expected => Ok(Outcome::Agrees),
-        Some(answer) => Ok(Outcome::Differs { expected, answer }),
+    match answer(heap, form, operands) {
+        Ok(answer) if answer.as_str() == expected => Ok(Outcome::Agrees),
+        Ok(answer) => Ok(Outcome::Differs { expected, answer }),
+        Err(Unanswered::Malformed) => Ok(Outcome::Malformed),
+        Err(Unanswered::Memory(e)) => Err(e),
     }
 }
 
 /// Compares each line, prints those that differ, and counts.
 fn compare_all(rt: &HostRuntime, text: &str) -> Result<Tally, Failure> {
-    let mut tally = Tally {
-        agree: 0,
-        differ: 0,
-        skipped: 0,
-    };
+    let mut tally = Tally::default();
     for (index, line) in text.lines().enumerate() {
         let number = index + 1;
         match compare(rt.alloc(), line.trim())? {

@@ -1,22 +1,15 @@
 // The question and the witness that two operands state.
 use super::super::reading::{Refused, read_pair};
-use hexadecimal::decode::decode;
+use super::{Unanswered, decoded};
 use question::question::Question;
-use std::alloc::{AllocError, Global};
+use std::alloc::Global;
 use witness::witness::Witness;
 
-/// The question and the witness that two operands are, or which of them is refused; nothing where one of the two is not in hexadecimal.
+/// The question and the witness that two operands in hexadecimal are, or which of them is refused.
 pub fn pair(
     heap: Global,
     operands: &str,
-) -> Result<Option<Result<(Question, Witness), Refused>>, AllocError> {
-    let Some((question, witness)) = operands.split_once(' ') else {
-        return Ok(None);
-    };
-    let question = decode(heap, question.as_bytes())?;
-    let witness = decode(heap, witness.as_bytes())?;
-    let (Some(question), Some(witness)) = (question, witness) else {
-        return Ok(None);
-    };
-    Ok(Some(read_pair(&question, &witness)))
+) -> Result<Result<(Question, Witness), Refused>, Unanswered> {
+    let (question, witness) = operands.split_once(' ').ok_or(Unanswered::Malformed)?;
+    Ok(read_pair(&decoded(heap, question)?, &decoded(heap, witness)?))
 }

@@ -1,9 +1,8 @@
 // Cases of the form `run Q STEPS => ANSWERS END`.
 use super::super::memories::MemoryKind;
 use super::super::run_texts::answer::RunWords;
-use super::Form;
 use super::refused::refused;
-use hexadecimal::decode::decode;
+use super::{Form, Unanswered, decoded};
 use machine::step::Step;
 use question::question::Question;
 use runs::step_bytes::steps_of;
@@ -33,29 +32,22 @@ fn over_both(heap: Global, question: &Question, steps: &[Step]) -> Result<String
     format!(in heap; "over the table {table} but over the list {list}")
 }
 
-/// The question and the steps that two operands state; nothing where one is malformed.
-fn answer_to(heap: Global, question: &str, steps: &str) -> Result<Option<String>, AllocError> {
-    let question = decode(heap, question.as_bytes())?;
-    let steps = decode(heap, steps.as_bytes())?;
-    let (Some(question_bytes), Some(step_bytes)) = (question, steps) else {
-        return Ok(None);
-    };
-    let Some(steps) = steps_of(heap, &step_bytes)? else {
-        return Ok(None);
-    };
+/// The answer to the question and the steps that two operands state.
+fn answer_to(heap: Global, question: &str, steps: &str) -> Result<String, Unanswered> {
+    let question_bytes = decoded(heap, question)?;
+    let step_bytes = decoded(heap, steps)?;
+    let steps = steps_of(heap, &step_bytes)?.ok_or(Unanswered::Malformed)?;
     let mut question = Question::new();
     let answer = match question.read(&question_bytes) {
         Ok(()) => over_both(heap, &question, &steps)?,
         Err(refusal) => refused(heap, refusal)?,
     };
-    Ok(Some(answer))
+    Ok(answer)
 }
 
 impl Form for RunForm {
-    fn answer(heap: Global, operands: &str) -> Result<Option<String>, AllocError> {
-        match operands.split_once(' ') {
-            None => Ok(None),
-            Some((question, steps)) => answer_to(heap, question, steps),
-        }
+    fn answer(heap: Global, operands: &str) -> Result<String, Unanswered> {
+        let (question, steps) = operands.split_once(' ').ok_or(Unanswered::Malformed)?;
+        answer_to(heap, question, steps)
     }
 }

@@ -1,8 +1,15 @@
 // What an instruction computes from the values of its operands.
 ghost use Rattle.std.specs.Prelude.{◌≡◌};
-ghost use Rattle.instructions.specs.Effects.{arithmetic_result, address_sum, data_sum, next_place, guessed_place};
+ghost use Rattle.instructions.specs.Effects.{arithmetic_result, address_sum, cell_number, data_sum, next_place, guessed_place};
 
 use super::Instruction;
+
+/// The cell that an address means: the address modulo 16.
+pub fn cell_number(address: u16) -> u16
+    ensures { result ≡ cell_number address }
+{
+    address % 16
+}
 
 impl Instruction {
     /// The result of an addition or a subtraction, modulo 65,536.

@@ -11,14 +11,6 @@ use instructions::instruction::Instruction;
 use rules::change::Change;
 use rules::entry::Entry;
 
-/// The instruction of what fills the slots of a buffer that are not in use.
-const BLANK: Instruction = Instruction::Add {
-    d: 0,
-    s1: None,
-    s2: None,
-    k: 0,
-};
-
 impl Processor {
     /// At place 0 with an empty buffer.
     pub fn new() -> Processor
@@ -26,7 +18,7 @@ impl Processor {
     {
         Processor {
             counter: 0,
-            entries: Bounded::new(Entry::fetched(0, BLANK, 0)),
+            entries: Bounded::new(Entry::fetched(0, Instruction::default(), 0)),
         }
     }
 

@@ -4,13 +4,7 @@ ghost use Rattle.question.specs.Views.{instructions_of};
 
 use super::Code;
 use bounded::vector::Bounded;
-use instructions::instruction::{AccessType, Instruction};
-
-/// What fills the slots that are not in use.
-const BLANK: Instruction = Instruction::Fence {
-    before: AccessType::Load,
-    after: AccessType::Load,
-};
+use instructions::instruction::Instruction;
 
 impl Code {
     /// No instructions.
@@ -18,7 +12,7 @@ impl Code {
     pub fn empty() -> Code
         ensures { instructions_of result ≡ [] }
     {
-        let instructions = Bounded::new(BLANK);
+        let instructions = Bounded::new(Instruction::default());
         Code { instructions }
     }
 }

@@ -1,5 +1,4 @@
 use Rattle.std.proofs.Common.{◌∙◌}
-use Rattle.bounded.specs.Items.{items}
 use Rattle.checker.specs.Views.{asked, stated}
 use Rattle.checker.proofs.Closures.{row_is_what_is_kept}
 use Rattle.checker.proofs.evaluated.Evaluated.position_is_kept.Goals as goal
@@ -8,6 +7,5 @@ pub returns : goal.returns
 returns g c =
     let s = c.args.self.now in
     c.row_is_kept.ensures
-    ∙ row_is_what_is_kept (g.R.OrderingRule.keeps c.args.rule.now) (asked s) (stated s) c.args.from.processor c.args.from.position
-    c.events.result.now (items c.reached_from-reached.result) c.as_slice.result.now
-    c.events.ensures.value c.reached_from-reached.ensures c.as_slice.ensures
+    ∙ row_is_what_is_kept (g.R.OrderingRule.keeps c.args.rule.now) (asked s) (stated s) c.args.from.processor c.args.from.position c.as_slice.result.now
+    (c.as_slice.ensures ∙ c.reached-reached.ensures)
