@@ -1,69 +1,50 @@
--- The library's reading of pairs of digits is the one stated here.
-use Rattle.std.proofs.Common.{◌≡◌, ℕ, ◌+◌, ◌*◌, ◌/◌, ◌%◌, List, [], ◌∷◌, ◌++◌, length, take, drop, Some, None, Option, Ok, Err, Result, MatchResult, sym, refl, ap, ◌∙◌, inl, inr, arith}
-use Rattle.std.proofs.lemmas.Bool.Decides.{nat_tests}
+-- The bytes of pairs of digits are found pair by pair, front to back.
+use Rattle.std.proofs.Common.{◌≡◌, ℕ, ◌-◌, ◌≤◌, List, [], ◌∷◌, ◌++◌, length, get_or, take, drop, Some, None, Option, sym, refl, ap, ◌∙◌, append_assoc, append-nil, arith}
+use Rattle.std.proofs.lemmas.List.{take_all, length-drop}
 use Rattle.std.specs.Option.{option_map}
-use Rattle.hex.specs.Hex.{hex_digit_value, digit_or_error, value_at, decode_pairs, decode_sized}
-use Rattle.hex.specs.Hex as hex
-use Rattle.std.proofs.lemmas.Bool.{cases_eq}
-use Rattle.std.proofs.lemmas.List.{take-append-le, take_all}
-use Rattle.hex.proofs.HexLemmas.{decode_of-even, decode_sized-twice, decode_sized-odd}
-use Rattle.hex.specs.declared.error.FromHexError.{FromHexError}
-use Rattle.hexadecimal.specs.Hex.{digit_value, both, pair_value, in_front, pairs_bytes}
+use Rattle.hexadecimal.specs.Hex.{pair_value, in_front, pairs_bytes}
 
--- A digit has the same value.
-digit_same : (c : ℕ) → hex_digit_value c ≡ digit_value c
-digit_same c = grind (arith, nat_tests)
+-- These bytes in front of others, where there are others.
+abbrev pub before : List ℕ → Option (List ℕ) → Option (List ℕ)
+before bs o = option_map (λ l. bs ++ l) o
 
--- What the library answers for a list of digits: the bytes, or an error where there are none.
-abbrev Agrees : Result (List ℕ) FromHexError → Option (List ℕ) → Type 0
-Agrees r o = MatchResult r (λ bytes. o ≡ Some bytes) (λ _. o ≡ None)
-
--- One pair in front.
-pair_agrees : (a b i : ℕ) (h l : Option ℕ) (r : Result (List ℕ) FromHexError) (o : Option (List ℕ)) → Agrees r o →
-    Agrees (hex.◌>>=◌ (hex.◌>>=◌ (digit_or_error a i h) (λ x. hex.◌>>=◌ (digit_or_error b (i + 1) l) (λ y. Ok (x * 16 + y)))) (λ byte. hex.◌>>=◌ r (λ bytes. Ok (byte ∷ bytes)))) (in_front (both h l) o)
-pair_agrees a b i None l r o e = refl
-pair_agrees a b i (Some h) None r o e = refl
-pair_agrees a b i (Some h) (Some l) (Ok bytes) o e = ap (option_map (λ bs. (h * 16 + l) ∷ bs)) e
-pair_agrees a b i (Some h) (Some l) (Err f) o e = ap (option_map (λ bs. (h * 16 + l) ∷ bs)) e
-
--- All pairs.
-pairs_agree : (i : ℕ) (text : List ℕ) → Agrees (decode_pairs i text) (pairs_bytes text)
-unfolding decode_pairs pairs_bytes
-pairs_agree i [] = refl
-pairs_agree i (a ∷ []) = refl
-pairs_agree i (a ∷ b ∷ text) = rw (← digit_same a, ← digit_same b) (pair_agrees a b i (hex_digit_value a) (hex_digit_value b) (decode_pairs (i + 2) text) (pairs_bytes text) (pairs_agree (i + 2) text))
-
--- Behind a byte there is nothing.
-none_behind : (b : Option ℕ) → in_front b None ≡ None
-none_behind None = refl
-none_behind (Some x) = refl
-
--- A digit left over: there are no bytes.
-odd_none : (text : List ℕ) → length text % 2 ≡ 1 → pairs_bytes text ≡ None
+-- A text of two digits or more states the byte of the first two in front of the others.
+pub pairs_of_two : (s : List ℕ) → 2 ≤ length s → pairs_bytes s ≡ in_front (pair_value (get_or s 0 0) (get_or s 1 0)) (pairs_bytes (drop 2 s))
 unfolding pairs_bytes
-odd_none [] h = absurd (omega arith)
-odd_none (a ∷ []) h = refl
-odd_none (a ∷ b ∷ text) h = rw (odd_none text (omega arith)) (none_behind (pair_value a b))
+pairs_of_two [] h = absurd (omega arith)
+pairs_of_two (a ∷ []) h = absurd (omega arith)
+pairs_of_two (a ∷ b ∷ s) h = refl
 
--- Into room for half as many bytes as there are digits.
-pub sized_agrees : (text : List ℕ) → Agrees (decode_sized text (length text / 2)) (pairs_bytes text)
-sized_agrees text = elim (cases_eq (length text % 2) 1) [
-  | inl e ↦ rw (decode_sized-odd text (length text / 2) e) (odd_none text e)
-  | inr n ↦ (let e : length text % 2 ≡ 0 = omega arith in rw (decode_sized-twice text (length text / 2) (omega arith), decode_of-even text e) (pairs_agree 0 text))
-]
+-- A byte behind those in front joins them.
+before_push : (bs : List ℕ) (b : ℕ) (o : Option (List ℕ)) → before (bs ++ b ∷ []) o ≡ before bs (in_front (Some b) o)
+before_push bs b None = refl
+before_push bs b (Some l) = ap (λ (x : List ℕ). Some x) (append_assoc bs (b ∷ []) l)
 
--- What the library wrote, by its answer.
-module _ (text out : List ℕ) (r : Result (Unit {0}) FromHexError) (n : ℕ) (e : n ≡ length text / 2)
-    (h : MatchResult (decode_sized text n) (λ bytes. (r ≡ Ok tt) × (out ≡ bytes)) (λ f. r ≡ Err f)) where
-  told : (d : Result (List ℕ) FromHexError) → Agrees d (pairs_bytes text) → MatchResult d (λ bytes. (r ≡ Ok tt) × (out ≡ bytes)) (λ f. r ≡ Err f) →
-      MatchResult r (λ _. pairs_bytes text ≡ Some out) (λ _. pairs_bytes text ≡ None)
-  told (Ok bytes) a (p, q) = rw p (a ∙ ap Some (sym q))
-  told (Err f) a p = rw p a
+module _ (bs s : List ℕ) (t : Option (List ℕ)) (e : before bs (pairs_bytes s) ≡ t) where
+  -- What the text states, by its first two digits.
+  by_two : 2 ≤ length s → before bs (in_front (pair_value (get_or s 0 0) (get_or s 1 0)) (pairs_bytes (drop 2 s))) ≡ t
+  by_two h = rw (← pairs_of_two s h) e
 
-  -- It wrote the bytes, or there are none.
-  pub written : MatchResult r (λ _. pairs_bytes text ≡ Some out) (λ _. pairs_bytes text ≡ None)
-  written = told (decode_sized text n) (rw e (sized_agrees text)) h
+  -- Two digits that state a byte: it joins those in front, and the text goes on behind the two.
+  pub pair_joins : (b : ℕ) (joined : List ℕ) → 2 ≤ length s → pair_value (get_or s 0 0) (get_or s 1 0) ≡ Some b → joined ≡ bs ++ b ∷ [] →
+      before joined (pairs_bytes (take (length s - 2) (drop 2 s))) ≡ t
+  pair_joins b joined h p q =
+      rw (q, take_all (length s - 2) (drop 2 s) (omega (arith, length-drop 2 s)))
+      (before_push bs b (pairs_bytes (drop 2 s)) ∙ (rw p at (by_two h)))
 
--- A list written over all of another is what is read back.
-pub read_back : (n : ℕ) (xs ys : List ℕ) → length xs ≡ n → take n (xs ++ drop (length xs) ys) ≡ xs
-read_back n xs ys e = take-append-le n xs (drop (length xs) ys) (omega arith) ∙ take_all n xs (omega arith)
+  -- Two bytes that are not digits: the text states nothing.
+  pub pair_fails : 2 ≤ length s → pair_value (get_or s 0 0) (get_or s 1 0) ≡ None → None ≡ t
+  pair_fails h p = rw p at (by_two h)
+
+-- At the end the bytes in front are all.
+pub pairs_end : (bs s : List ℕ) (t : Option (List ℕ)) → before bs (pairs_bytes s) ≡ t → length s ≡ 0 → Some bs ≡ t
+unfolding pairs_bytes
+pairs_end bs [] t e h = ap (λ (x : List ℕ). Some x) (sym (append-nil bs)) ∙ e
+pairs_end bs (a ∷ s) t e h = absurd (omega arith)
+
+-- A digit is left over: the text states nothing.
+pub pairs_odd : (bs s : List ℕ) (t : Option (List ℕ)) → before bs (pairs_bytes s) ≡ t → length s ≡ 1 → None ≡ t
+unfolding pairs_bytes
+pairs_odd bs [] t e h = absurd (omega arith)
+pairs_odd bs (a ∷ []) t e h = e
+pairs_odd bs (a ∷ b ∷ s) t e h = absurd (omega arith)

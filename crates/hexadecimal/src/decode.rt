@@ -1,19 +1,36 @@
 // Bytes from their hexadecimal digits.
 ghost use Rattle.std.specs.Prelude.{◌≡◌, IfOk, vec_items};
 ghost use Rattle.std.specs.Option.{option_map};
-ghost use Rattle.hexadecimal.specs.Hex.{pairs_bytes, hex_bytes};
+ghost use Rattle.hexadecimal.specs.Hex.{pair_value, pairs_bytes, hex_bytes};
 
-use hex::decode_to_slice;
+use hex::FromHex;
 use std::alloc::{AllocError, Global};
+
+/// The byte that two digits state.
+fn pair(high: u8, low: u8) -> Option<u8>
+    ensures { result ≡ pair_value high low }
+{
+    let [byte] = <[u8; 1]>::from_hex([high, low]).ok()?;
+    Some(byte)
+}
 
 /// The bytes that pairs of digits state; nothing where a digit is wrong or one is left over.
 fn pairs(heap: Global, text: &[u8]) -> Result<Option<Vec<u8>>, AllocError>
     ensures { IfOk result (λ o. option_map vec_items o ≡ pairs_bytes text.now) }
 {
-    let mut bytes = vec![in heap; 0; text.len() / 2]?;
-    match decode_to_slice(text, bytes.as_mut_slice()) {
-        Ok(()) => Ok(Some(bytes)),
-        Err(_) => Ok(None),
+    let mut bytes = Vec::new(heap);
+    let mut rest = text;
+    while let [high, low, behind @ ..] = rest {
+        let Some(byte) = pair(*high, *low) else {
+            return Ok(None);
+        };
+        bytes.push(byte)?;
+        rest = behind;
+    }
+    if rest.is_empty() {
+        Ok(Some(bytes))
+    } else {
+        Ok(None)
     }
 }
 
