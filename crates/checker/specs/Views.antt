@@ -1,12 +1,13 @@
 -- What the types of the code stand for.
-use Rattle.std.specs.Prelude.{ℕ, Bool, false, not, ◌&&◌, ◌||◌, ⊤, List, Ok, Err, Result, nat_lt, slice_index_or}
+use Rattle.std.specs.Prelude.{ℕ, Bool, false, not, ◌&&◌, ◌||◌, ⊤, List, Ok, Err, Result, ◌==◌, nat_lt, slice_index_or}
 use Rattle.instructions.specs.Kinds.{access}
 use Rattle.question.specs.Litmus.{Litmus}
 use Rattle.question.specs.Views.{litmus_of}
 use Rattle.witness.specs.Execution.{Execution}
 use Rattle.witness.specs.Views.{execution_of}
-use Rattle.checker.specs.Terms.{instruction}
-use Rattle.checker.specs.Tests.{rank}
+use Rattle.checker.specs.Fixed.{stores_to}
+use Rattle.checker.specs.Terms.{instruction, cell}
+use Rattle.checker.specs.Tests.{ordered, rank}
 use Rattle.checker.specs.declared.evaluated.Evaluated.{Evaluated}
 use Rattle.checker.specs.declared.axiom.Axiom.{Axiom}
 use Rattle.checker.specs.declared.axiom.Axiom.TheVariants.{Path, Order, Source, InstOrder, LoadValue}
@@ -35,3 +36,8 @@ stated e = execution_of e.witness.now
 abbrev pub kept_by_row : Litmus → Execution → List Bool → ℕ → ℕ → ℕ → Bool
 kept_by_row q w row p i j =
     not (access (instruction q w p i) && (access (instruction q w p j) && slice_index_or row j false)) || nat_lt (rank q w p i) (rank q w p j)
+
+-- The access at number k of the order is a store to the cell of position i of processor p, before number n in the order or in its own path.
+abbrev pub candidate_before : Litmus → Execution → ℕ → ℕ → ℕ → ℕ → Bool
+candidate_before q w n p i k =
+    stores_to q w (cell q w p i) (ordered q w k) && (nat_lt k n || ((ordered q w k).processor == p && nat_lt (ordered q w k).position i))

@@ -3,28 +3,28 @@ ghost use Rattle.std.specs.Prelude.{◌≡◌, length};
 ghost use Rattle.events.specs.Sources.{path_at};
 ghost use Rattle.search.specs.Search.{nearest};
 ghost use Rattle.checker.specs.Tests.{all_below, is_candidate, names_found, is_youngest, load_value_test};
-ghost use Rattle.checker.specs.Views.{asked, stated};
+ghost use Rattle.checker.specs.Views.{asked, stated, candidate_before};
 
 use super::evaluated::Evaluated;
 use super::position::Position;
 use witness::record::Source;
 
 impl<'q, 'w> Evaluated<'q, 'w> {
-    /// Whether the access with a number in the order is a store to a position's cell, before it in the order or in its own path.
-    fn is_candidate(&self, at: Position, number: usize) -> bool
-        ensures { result ≡ is_candidate (asked self.now) (stated self.now) at.processor at.position number }
+    /// Whether the access with a number in the order is a store to a position's cell, before the rank in the order or before the position in its own path.
+    fn is_candidate(&self, at: Position, rank: usize, number: usize) -> bool
+        ensures { result ≡ candidate_before (asked self.now) (stated self.now) rank at.processor at.position number }
     {
         let store = Position::from(self.ordered(number));
         self.stores_to(self.cell(at), store)
-            && (number < self.rank(at)
-                || (store.processor == at.processor && store.position < at.position))
+            && (number < rank || (store.processor == at.processor && store.position < at.position))
     }
 
     /// The number in the order of a position's youngest candidate.
     pub fn youngest(&self, at: Position) -> Option<usize>
         ensures { result ≡ nearest (is_candidate (asked self.now) (stated self.now) at.processor at.position) (length (stated self.now).order) }
     {
-        (0..self.accesses()).rfind(|number| self.is_candidate(at, *number))
+        let rank = self.rank(at);
+        (0..self.accesses()).rfind(|number| self.is_candidate(at, rank, *number))
     }
 
     /// Whether a source record names the access with a number in the order, or the start where there is none.
