@@ -1,7 +1,6 @@
 // The accesses of a witness in memory order, as text.
-use checker::evaluated::Evaluated;
-use checker::position::Position;
 use events::event::Event;
+use events::path::PathEvents;
 use instructions::instruction::effects::cell_number;
 use listing::access::AccessText;
 use listing::origin::Origin;
@@ -37,26 +36,26 @@ impl fmt::Display for AccessLine {
     }
 }
 
-/// The accesses of a witness in memory order, a line each.
+/// The accesses of an order, a line each, by what each path comes to.
 #[derive(Clone, Copy)]
-pub struct AccessLines<'a>(pub &'a Evaluated<'a, 'a>);
+pub struct AccessLines<'a> {
+    pub order: &'a [Access],
+    pub rows: &'a [PathEvents],
+}
 
 impl fmt::Display for AccessLines<'_> {
     fn fmt<W: fmt::Write>(&self, f: &mut fmt::Formatter<W>) -> fmt::Result {
-        let order = self.0.witness.order();
         f.write_str("memory order:")?;
-        if order.is_empty() {
+        if self.order.is_empty() {
             return f.write_str(" no access");
         }
-        for access in order {
-            let Position {
-                processor,
-                position,
-            } = Position::from(*access);
+        for access in self.order {
+            let position = usize::from(access.position);
+            let row = self.rows.get(usize::from(access.processor));
             let line = AccessLine {
                 access: *access,
-                event: self.0.events(processor).get(position).copied(),
-                source: self.0.sources(processor).get(position).copied(),
+                event: row.and_then(|row| row.events.get(position)),
+                source: row.and_then(|row| row.sources.get(position)),
             };
             write!(f, "\n  {line}")?;
         }

@@ -27,6 +27,10 @@ impl<R: OrderingRule> fmt::Display for CheckListing<'_, R> {
             Err(Some(reason)) => write!(f, "{reason}")?,
             Err(None) => f.write_str("not accepted")?,
         }
-        write!(f, "\n{}", AccessLines(&evaluated))
+        let accesses = AccessLines {
+            order: self.witness.order(),
+            rows: evaluated.paths.as_slice(),
+        };
+        write!(f, "\n{accesses}")
     }
 }

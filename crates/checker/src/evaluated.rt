@@ -16,6 +16,6 @@ pub mod methods;
 pub struct Evaluated<'q, 'w> {
     pub question: &'q Question,
     pub witness: &'w Witness,
-    paths: Bounded<PathEvents, 4>,
+    pub paths: Bounded<PathEvents, 4>,
     ghost evaluation: { ∥ Evaluation (litmus_of question.now) (execution_of witness.now) (items paths) ∥₁ },
 }
