@@ -1,23 +1,32 @@
 // What a witness fixes: each register and each cell.
-ghost use Rattle.std.specs.Prelude.{◌≡◌};
+ghost use Rattle.std.specs.Prelude.{◌≡◌, length, Some};
 ghost use Rattle.question.specs.Views.{litmus_of};
 ghost use Rattle.witness.specs.Views.{execution_of};
+ghost use Rattle.events.specs.Events.{operand};
 ghost use Rattle.checker.specs.Fixed.{fixed_register, fixed_cell, last_store, left_by, cell_from};
 ghost use Rattle.checker.specs.Views.{asked, stated};
 
 use super::evaluated::Evaluated;
+use events::event::Event;
 use events::lookup::operand;
 use memory::cell::{Cell, Mark};
 use question::question::Question;
 use witness::record::Access;
 use witness::witness::Witness;
 
+/// A register after the events: the result of its last writer, or 0.
+fn register_after(events: &[Event], register: u8) -> u16
+    ensures { result ≡ operand events.now (length events.now) (Some register) }
+{
+    operand(events, Some(register))
+}
+
 /// The register that a witness fixes; 0 where there is no such processor or register.
 pub fn fixed_register(question: &Question, witness: &Witness, processor: u8, register: u8) -> u16
     ensures { result ≡ fixed_register (litmus_of question.now) (execution_of witness.now) processor register }
 {
     let evaluated = Evaluated::new(question, witness);
-    operand(evaluated.events(processor as usize), Some(register))
+    register_after(evaluated.events(processor as usize), register)
 }
 
 impl<'q, 'w> Evaluated<'q, 'w> {

@@ -13,4 +13,4 @@ returns c =
     let p = c.args.processor in
     let r = c.args.register in
     let same : c.events.result.now ≡ events q w p = c.events.ensures.value ∙ (λ i. events (c.new-evaluated.ensures.question i) (c.new-evaluated.ensures.witness i) p) in
-    c.operand.ensures ∙ ap (λ es. operand es (length es) (Some r)) same ∙ ap (λ n. operand (events q w p) n (Some r)) (length_events q w p)
+    c.register_after.ensures ∙ ap (λ es. operand es (length es) (Some r)) same ∙ ap (λ n. operand (events q w p) n (Some r)) (length_events q w p)
