@@ -1,5 +1,5 @@
 -- What the evaluation of a witness has at each processor and position.
-use Rattle.std.proofs.Common.{◌≡◌, ℕ, true, map, ◌<◌, ◌≤◌, List, [], length, get_or, sym, ap, ◌∙◌, inl, inr, arith}
+use Rattle.std.proofs.Common.{◌≡◌, ℕ, true, map, ◌<◌, ◌≤◌, ◌⊎◌, List, [], length, get_or, sym, ap, ◌∙◌, inl, inr, arith}
 use Rattle.std.proofs.lemmas.List.{length-map, get_or-map, get_or_past}
 use Rattle.std.proofs.lemmas.Bool.{cases_lt, false≢true}
 use Rattle.std.proofs.lemmas.List.FromFn.{length-map-range_with_len, get_or-map-range_with_len}
@@ -50,6 +50,24 @@ module _ (q : Litmus) (w : Execution) (rows : List PathEvents) (e : Evaluation q
   no_row_no_records p l =
       let none : path_at w p ≡ [] = get_or_past w.paths p [] (omega (arith, rows_are_paths)) in
       ap (λ n. map (source_at q w p) (range_with_len 0 n)) (sym (ap length none))
+
+  -- Each row has the source record of each position.
+  pub row_has_sources : (p i : ℕ) (d : PathEvents) (s : Source) → p < length rows → i < length (path_at w p) →
+      get_or (items (get_or rows p d).sources) i s ≡ source_at q w p i
+  row_has_sources p i d s l m =
+      ap (λ xs. get_or xs i s) (row_has_records p d l) ∙ get_or-map-range_with_len (source_at q w p) 0 (length (path_at w p)) i i s m (omega arith)
+
+  -- A row has as many source records as its path has places.
+  pub row_has_as_many_sources : (p : ℕ) (d : PathEvents) → p < length rows → length (items (get_or rows p d).sources) ≡ length (path_at w p)
+  row_has_as_many_sources p d l = ap length (row_has_records p d l) ∙ length-map-range_with_len (source_at q w p) 0 (length (path_at w p))
+
+  -- A position of a path has a row.
+  pub position_has_row : (p i : ℕ) → i < length (path_at w p) → p < length rows
+  position_has_row p i l = go (cases_lt p (length rows))
+    where
+      go : (p < length rows) ⊎ (length rows ≤ p) → p < length rows
+      go (inl h) = h
+      go (inr h) = let none : length (path_at w p) ≡ 0 = ap length (get_or_past w.paths p [] (omega (arith, rows_are_paths))) in absurd (omega arith)
 
 -- A path has as many source records as places.
 pub length_sources : (q : Litmus) (w : Execution) (p : ℕ) → length (path_sources q w p) ≡ length (path_at w p)

@@ -1,13 +1,23 @@
 -- The parts of a line are those of a case.
-use Rattle.std.proofs.Common.{◌≡◌, ℕ, Bool, true, false, List, ◌∷◌, ◌++◌, Some, codes, Decides, Option, sym, ap, ◌∙◌, subst, arith}
+use Rattle.std.proofs.Common.{◌≡◌, ℕ, Bool, true, false, List, [], ◌∷◌, ◌++◌, length, Some, codes, Decides, Option, sym, refl, ap, ◌∙◌, subst, arith}
 use Rattle.std.proofs.lemmas.Slice.Eq.{bytes_eq-Decides}
+use Rattle.std.specs.Option.{option_map}
 use Rattle.std.specs.Str.{bytes_eq}
 use Rattle.cuckooshelf.specs.Lines.{Case}
+
+-- A line without bytes is empty.
+pub none_is_empty : (line : List ℕ) → length line ≡ 0 → line ≡ []
+none_is_empty [] h = refl
+none_is_empty (b ∷ line) h = absurd (omega arith)
 
 -- A word, a blank, operands, an arrow and an answer are a case.
 pub case_from_parts : {line form rest operands expected : List ℕ} → line ≡ form ++ (32 ∷ rest) → rest ≡ operands ++ (codes " => " ++ expected) →
     Case line form operands expected
 case_from_parts {form = form} p q = record { whole = p ∙ ap (λ (r : List ℕ). form ++ (32 ∷ r)) q }
+
+-- What is right of an answer is right of the text that was found.
+pub found_answer : {S : Type 0} (text : S → List ℕ) (o : Option S) (x : S) (Right : Option (List ℕ) → Type 0) → Right (option_map text o) → o ≡ Some x → Right (Some (text x))
+found_answer text o x Right p q = subst Right (ap (option_map text) q) p
 
 -- A comparison of texts is true exactly where they are equal.
 compared : (text expected : List ℕ) (b : Bool) → b ≡ bytes_eq text expected → Decides b (text ≡ expected)

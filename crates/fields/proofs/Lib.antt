@@ -1,3 +1,4 @@
 pub mod Rows
 pub mod Chunks
 pub mod Relations
+pub mod Headers

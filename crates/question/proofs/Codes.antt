@@ -1,6 +1,6 @@
 -- Instructions of a processor, read one after the other.
-use Rattle.std.proofs.Common.{◌≡◌, ℕ, suc, ◌+◌, ◌-◌, ◌*◌, ◌<◌, ◌≤◌, List, [], ◌∷◌, ◌++◌, take, drop, Ok, Err, Result, sym, refl, ap, ◌∙◌, append_assoc, arith}
-use Rattle.std.proofs.lemmas.List.{drop-drop, append-nil}
+use Rattle.std.proofs.Common.{◌≡◌, ℕ, suc, ◌+◌, ◌-◌, ◌*◌, ◌<◌, ◌≤◌, List, [], ◌∷◌, ◌++◌, length, get_or, take, drop, Ok, Err, Result, sym, refl, ap, ◌∙◌, append_assoc, arith}
+use Rattle.std.proofs.lemmas.List.{drop_more, drop-drop, append-nil}
 use Rattle.fields.specs.declared.refusal.Refusal.{Refusal}
 use Rattle.fields.specs.Rows.{then}
 use Rattle.instructions.specs.declared.instruction.Instruction.{Instruction}
@@ -44,3 +44,21 @@ module _ (n : ℕ) (b : List ℕ) where
   code_all p xs l =
       let e : n - p ≡ 0 = omega arith in
       ap (λ m. after xs (code_from n m (drop (8 * p) b))) e ∙ ap Ok (append-nil xs)
+
+-- One byte more at the front of those from i on.
+next : (b : List ℕ) (n i j : ℕ) → i < length b → i + 1 ≡ j → take (suc n) (drop i b) ≡ get_or b i 0 ∷ take n (drop j b)
+next b n i j l e = ap (take (suc n)) (drop_more b i 0 l) ∙ ap (λ k. get_or b i 0 ∷ take n (drop k b)) e
+
+-- The eight bytes from i on.
+pub eight_bytes : (b : List ℕ) (i : ℕ) → i + 8 ≤ length b →
+    get_or b i 0 ∷ get_or b (i + 1) 0 ∷ get_or b (i + 2) 0 ∷ get_or b (i + 3) 0 ∷ get_or b (i + 4) 0 ∷ get_or b (i + 5) 0 ∷ get_or b (i + 6) 0 ∷ get_or b (i + 7) 0 ∷ []
+    ≡ take 8 (drop i b)
+eight_bytes b i l = sym (
+    next b 7 i (i + 1) (omega arith) refl ∙ ap (λ t. get_or b i 0 ∷ t) (
+    next b 6 (i + 1) (i + 2) (omega arith) (omega arith) ∙ ap (λ t. get_or b (i + 1) 0 ∷ t) (
+    next b 5 (i + 2) (i + 3) (omega arith) (omega arith) ∙ ap (λ t. get_or b (i + 2) 0 ∷ t) (
+    next b 4 (i + 3) (i + 4) (omega arith) (omega arith) ∙ ap (λ t. get_or b (i + 3) 0 ∷ t) (
+    next b 3 (i + 4) (i + 5) (omega arith) (omega arith) ∙ ap (λ t. get_or b (i + 4) 0 ∷ t) (
+    next b 2 (i + 5) (i + 6) (omega arith) (omega arith) ∙ ap (λ t. get_or b (i + 5) 0 ∷ t) (
+    next b 1 (i + 6) (i + 7) (omega arith) (omega arith) ∙ ap (λ t. get_or b (i + 6) 0 ∷ t) (
+    next b 0 (i + 7) (i + 8) (omega arith) (omega arith)))))))))

@@ -1,3 +1,4 @@
 pub mod Cells
 pub mod Codes
 pub mod Sound
+pub mod Drafts

@@ -9,3 +9,4 @@ mod Processors
 mod Pushes
 mod Rules
 mod Settling
+mod Same

@@ -1,5 +1,5 @@
 -- What a search finds: exactly the nearest place or the first place, or nothing where nothing passes.
-use Rattle.std.proofs.Common.{◌≡◌, ℕ, zero, suc, ◌+◌, ◌-◌, ◌<◌, ◌≤◌, Bool, true, false, cond, List, map, length, get_or, Some, None, Option, refl, ap, ◌∙◌, inl, inr, add-one, arith}
+use Rattle.std.proofs.Common.{◌≡◌, ℕ, zero, suc, ◌+◌, ◌-◌, ◌<◌, ◌≤◌, Bool, true, false, cond, List, map, length, get_or, Some, None, Option, sym, refl, ap, ◌∙◌, inl, inr, add-one, arith}
 use Rattle.std.proofs.lemmas.List.{get_or-map, get_or_past, length-map}
 use Rattle.std.proofs.lemmas.Bool.{cases_eq, cases_order, both_ways}
 use Rattle.search.specs.Search.{nearest, first, passes, Nearest, NoneBelow, First, NoneFrom, Sought, Met}
@@ -160,6 +160,57 @@ first_some t i n k e = go (first_found t i n) e
     go (Met.nothing h) f = let z : ◌≡◌ {A = ℕ} 0 1 = cc in absurd (omega arith)
     go (Met.found j p) f = let z : j ≡ k = cc in rw z at p
 
+-- Where the search finds nothing, nothing from the start on passes.
+pub first_none : (t : ℕ → Bool) (i n : ℕ) → first t i n ≡ None → NoneFrom t i n
+first_none t i n e = go (first_found t i n) e
+  where
+    go : {o : Option ℕ} → Met t i n o → o ≡ None → NoneFrom t i n
+    go (Met.nothing h) f = h
+    go (Met.found k p) f = let z : ◌≡◌ {A = ℕ} 0 1 = cc in absurd (omega arith)
+
+-- Two tests that agree from the start on have the same first place.
+pub first_same : (t u : ℕ → Bool) (i n : ℕ) → ((k : ℕ) → i ≤ k → k < i + n → t k ≡ u k) → first t i n ≡ first u i n
+unfolding first
+first_same t u i zero h = refl
+first_same t u i (suc n) h =
+    rw (h i (omega arith) (omega arith), first_same t u (suc i) n (λ k a b. h k (omega arith) (omega arith)))
+
+-- Among no places there is nothing.
+pub first_zero : (t : ℕ → Bool) (i : ℕ) → first t i 0 ≡ None
+unfolding first
+first_zero t i = refl
+
+-- One place more at the front: that place if it passes, else what is found after it.
+pub first_next : (t : ℕ → Bool) (i n : ℕ) → first t i (n + 1) ≡ cond (t i) (Some i) (first t (i + 1) n)
+unfolding first
+first_next t i n = rw (add-one n, add-one i) refl
+
+-- The place at the start passes: it is found.
+pub first_hit : (t : ℕ → Bool) (i n : ℕ) → t i ≡ true → first t i (n + 1) ≡ Some i
+first_hit t i n h = first_next t i n ∙ rw h refl
+
+-- The place at the start fails: the search finds what it finds after it.
+pub first_miss : (t : ℕ → Bool) (i n : ℕ) → t i ≡ false → first t i (n + 1) ≡ first t (i + 1) n
+first_miss t i n h = first_next t i n ∙ rw h refl
+
+-- Up to an end: the place at the start passes, so it is found.
+pub first_hit_under : (t : ℕ → Bool) (i n : ℕ) → i < n → t i ≡ true → first t i (n - i) ≡ Some i
+first_hit_under t i n l h =
+    let e : n - i ≡ (n - (i + 1)) + 1 = omega arith in
+    ap (first t i) e ∙ first_hit t i (n - (i + 1)) h
+
+-- Up to an end: the place at the start fails, so the search goes on after it.
+pub first_miss_under : (t : ℕ → Bool) (i n : ℕ) → i < n → t i ≡ false → first t i (n - i) ≡ first t (i + 1) (n - (i + 1))
+first_miss_under t i n l h =
+    let e : n - i ≡ (n - (i + 1)) + 1 = omega arith in
+    ap (first t i) e ∙ first_miss t i (n - (i + 1)) h
+
+-- Up to an end that is not after the start there is nothing.
+pub first_past : (t : ℕ → Bool) (i n : ℕ) → n ≤ i → first t i (n - i) ≡ None
+first_past t i n l =
+    let e : n - i ≡ 0 = omega arith in
+    ap (first t i) e ∙ first_zero t i
+
 -- Within the list a place passes as its element does.
 pub passes_at : {X : Type 0} (p : X → Bool) (xs : List X) (i : ℕ) (d : X) → i < length xs → passes p xs i ≡ p (get_or xs i d)
 passes_at p xs i d l = get_or-map p xs i d false l
@@ -167,3 +218,7 @@ passes_at p xs i d l = get_or-map p xs i d false l
 -- Past the end no place passes.
 pub passes_past : {X : Type 0} (p : X → Bool) (xs : List X) (i : ℕ) → length xs ≤ i → passes p xs i ≡ false
 passes_past p xs i l = get_or_past (map p xs) i false (omega (arith, length-map xs p))
+
+-- A place that was read passes as what was read does.
+pub passes_read : {X : Type 0} (p : X → Bool) (xs : List X) (i : ℕ) (x : X) → i < length xs → x ≡ get_or xs i x → passes p xs i ≡ p x
+passes_read p xs i x l r = passes_at p xs i x l ∙ ap p (sym r)
