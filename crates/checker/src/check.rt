@@ -37,5 +37,6 @@ fn judge<R: OrderingRule>(rule: &R, evaluated: &Evaluated<'_, '_>) -> Result<(),
 pub fn check<R: OrderingRule>(rule: &R, question: &Question, witness: &Witness) -> Result<(), Axiom>
     ensures { verdict_number result ≡ verdict (R.OrderingRule.keeps rule.now) (litmus_of question.now) (execution_of witness.now) }
 {
-    judge(rule, &Evaluated::new(question, witness))
+    let evaluated = Evaluated::new(question, witness);
+    judge(rule, &evaluated)
 }

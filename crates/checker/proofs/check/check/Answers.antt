@@ -6,4 +6,4 @@ pub returns : goal.returns
 unfolding verdict
 returns g c =
     let keeps = g.R.OrderingRule.keeps c.args.rule.now in
-    c.judge.ensures ∙ (λ i. first_failing (tests keeps (c.new.ensures.question i) (c.new.ensures.witness i)))
+    c.judge.ensures ∙ (λ i. first_failing (tests keeps (c.new-evaluated.ensures.question i) (c.new-evaluated.ensures.witness i)))
