@@ -1,6 +1,8 @@
-use Rattle.std.proofs.Common.{◌<◌, ◌≤◌, length, get_or, ap, ◌∙◌, arith}
+use Rattle.std.proofs.Common.{◌≡◌, ◌<◌, ◌≤◌, length, get_or, ap, ◌∙◌, arith}
+use Rattle.std.proofs.lemmas.Grind.{common_steps}
 use mathlib.Core.Logic.{∥∥₁_elim}
 use Rattle.bounded.specs.Items.{items}
+use Rattle.events.specs.Sources.{events}
 use Rattle.checker.specs.Views.{asked, stated}
 use Rattle.checker.proofs.Evaluations.{row_has_events, no_row_no_events}
 use Rattle.checker.proofs.RowSets.{events_set}
@@ -13,8 +15,10 @@ returns-in-Some-clause-value c =
     let p = c.args.processor in
     let d = c.in-Some.path.now in
     let within : p < length rows = omega (arith, c.in-Some.ensures.lookup.3.0, ap length c.as_slice.ensures) in
-    let same = c.as_slice-in-Some.ensures ∙ ap (λ x. items x.events) (c.in-Some.ensures.lookup.1 ∙ ap (λ xs. get_or xs p d) c.as_slice.ensures) in
-    ∥∥₁_elim s.evaluation (events_set _ _) (λ e. same ∙ row_has_events (asked s) (stated s) rows e p d within)
+    let row : d ≡ get_or rows p d = c.in-Some.ensures.lookup.1 ∙ ap (λ xs. get_or xs p d) c.as_slice.ensures in
+    ∥∥₁_elim s.evaluation (events_set _ _) (λ e.
+    let known : items d.events ≡ events (asked s) (stated s) p = ap (λ x. items x.events) row ∙ row_has_events (asked s) (stated s) rows e p d within in
+    grind (arith, common_steps))
 
 pub returns-in-None-clause-value : goal.returns-in-None-clause-value
 returns-in-None-clause-value c =
